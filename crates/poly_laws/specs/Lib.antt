@@ -1,0 +1,5 @@
+pub mod Lists
+pub mod PolyAlgebra
+pub mod Bounds
+pub mod Values
+pub mod Shift
