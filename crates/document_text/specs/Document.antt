@@ -1,0 +1,55 @@
+-- The document of the command gosper with a found claim, and its one text.
+use Rattle.std.specs.Prelude.{ℕ, codes, List, [], ◌∷◌, map, Option, Some, None}
+use Rattle.std.specs.Fmt.{decimal}
+use Rattle.hypergeometric.specs.LinearForm.{LinearForm, FactorList}
+use Rattle.hypergeometric.specs.ProperTerm.{ProperTerm}
+use Rattle.hypergeometric.specs.Claim.{Claim}
+use Rattle.document_text.specs.Spelling.{◌⧺◌, joined, polynomial_text, polynomial_in_n_text}
+use Rattle.document_text.specs.TermText.{form_text, times_text, items_text, factors_text, factor_list_text, proper_term_text}
+
+-- a form of q that is a form of r shifted by `shift`, as often as its power says
+pub record Match : Type 0 where
+  pub form : LinearForm
+  pub shift : ℕ
+  pub power : ℕ
+
+-- a found claim: its order, Gosper's normal form (the matches, q and r), the recurrence with its certificate, and the range of the sum
+pub record Found : Type 0 where
+  pub order : ℕ
+  pub matches : List Match
+  pub q : FactorList
+  pub r : FactorList
+  pub claim : Claim
+  pub range : Option (LinearForm × LinearForm)
+
+pub record Document : Type 0 where
+  pub term : ProperTerm
+  pub found : Found
+
+-- a word, what follows it, and a newline
+abbrev pub line : List ℕ → List ℕ → List ℕ
+line word rest = word ⧺ rest ⧺ 10 ∷ []
+
+abbrev pub match_text : Match → List ℕ
+match_text m = form_text m.form ⧺ codes " by " ⧺ decimal m.shift ⧺ times_text m.power
+
+abbrev pub range_text : Option (LinearForm × LinearForm) → List ℕ
+range_text None = codes "-"
+range_text (Some ends) = form_text ends.0 ⧺ codes " to " ⧺ form_text ends.1
+
+abbrev pub found_text : Found → List ℕ
+found_text f = line (codes "found ") (decimal f.order)
+    ⧺ line (codes "match ") (items_text (map match_text f.matches))
+    ⧺ line (codes "q ") (factor_list_text f.q)
+    ⧺ line (codes "r ") (factor_list_text f.r)
+    ⧺ line (codes "a ") (joined (codes "; ") (map polynomial_in_n_text f.claim.multipliers))
+    ⧺ line (codes "K ") (proper_term_text f.claim.carrier)
+    ⧺ line (codes "Y ") (polynomial_text f.claim.y)
+    ⧺ line (codes "D ") (factors_text f.claim.poles)
+    ⧺ line (codes "Rtop ") (factor_list_text f.claim.ratio_top)
+    ⧺ line (codes "Rbot ") (factor_list_text f.claim.ratio_bottom)
+    ⧺ line (codes "range ") (range_text f.range)
+
+unfoldable pub document_text : Document → List ℕ
+document_text d = line (codes "ekhad 1") [] ⧺ line (codes "command gosper") [] ⧺ line (codes "term ") (proper_term_text d.term)
+    ⧺ found_text d.found ⧺ line (codes "end") []

@@ -1,0 +1,4 @@
+pub mod Spelling
+pub mod TermText
+pub mod Document
+pub mod WellFormed

@@ -1,0 +1,155 @@
+-- Which documents are well formed: the bounds that a document keeps.
+use Rattle.std.specs.Prelude.{◌≡◌, ◌≢◌, ℕ, ◌+◌, ◌*◌, ◌^◌, ◌≤◌, ◌<◌, IsTrue, ℤ, pos, ◌<ℤ◌, unsigned_abs, ◌⊎◌, List, [], ◌∷◌, Option, Some, None}
+use Rattle.std.specs.Int.{◌∣◌}
+use Rattle.std.specs.List.{AllByRecursion}
+use Rattle.ring_laws.specs.Meaning.{Meaning}
+use Rattle.poly_laws.specs.Values.{level}
+use Rattle.hypergeometric.specs.Fraction.{Fraction}
+use Rattle.hypergeometric.specs.LinearForm.{LinearForm, Factor, FactorList}
+use Rattle.hypergeometric.specs.ProperTerm.{ProperTerm}
+use Rattle.document_text.specs.Document.{Match, Found, Document}
+
+-- a number below 2^127 in magnitude
+abbrev pub IsNumber : ℤ → Type 0
+IsNumber z = unsigned_abs z < 2 ^ 127
+
+-- a polynomial with so many variables: trimmed lists of at most 256 coefficients, numbers below 2^127 in magnitude
+pub record IsPolynomial (variables : ℕ) (p : Meaning) : Type 0 where
+  pub passes : IsTrue ((level variables).passes p)
+  pub fits : (level variables).ops.Fits p
+
+-- a fraction in lowest terms with a positive denominator, other than 0
+pub record IsLowest (f : Fraction) : Type 0 where
+  pub top : IsNumber f.top
+  pub bottom : IsNumber f.bottom
+  pub not_zero : f.top ≢ pos 0
+  pub positive : pos 0 <ℤ f.bottom
+  pub coprime : (d : ℕ) → d ∣ unsigned_abs f.top → d ∣ unsigned_abs f.bottom → d ≡ 1
+
+-- slopes of at most 64, an offset of at most 2^40 in magnitude
+pub record IsForm (f : LinearForm) : Type 0 where
+  pub n_slope : unsigned_abs f.n_slope ≤ 64
+  pub k_slope : unsigned_abs f.k_slope ≤ 64
+  pub offset : unsigned_abs f.offset ≤ 2 ^ 40
+
+-- the limits on the arguments of a term's factorials and on its denominators
+pub record IsWithinLimits (f : LinearForm) : Type 0 where
+  pub n_slope : unsigned_abs f.n_slope ≤ 8
+  pub k_slope : unsigned_abs f.k_slope ≤ 8
+  pub offset : unsigned_abs f.offset ≤ 1000000
+
+-- the first number that isn't 0, in the order k slope, n slope, offset, is positive
+abbrev pub IsPositiveFirst : LinearForm → Type 0
+IsPositiveFirst f = (pos 0 <ℤ f.k_slope)
+    ⊎ (((f.k_slope ≡ pos 0) × (pos 0 <ℤ f.n_slope))
+    ⊎ ((f.k_slope ≡ pos 0) × (f.n_slope ≡ pos 0) × (pos 0 <ℤ f.offset)))
+
+-- no common divisor above 1, and a positive first number
+pub record IsPrimitive (f : LinearForm) : Type 0 where
+  pub first : IsPositiveFirst f
+  pub coprime : (d : ℕ) → d ∣ unsigned_abs f.k_slope → d ∣ unsigned_abs f.n_slope → d ∣ unsigned_abs f.offset → d ≡ 1
+
+-- the order of forms: by k slope, then n slope, then offset
+abbrev pub IsBefore : LinearForm → LinearForm → Type 0
+IsBefore f g = (f.k_slope <ℤ g.k_slope)
+    ⊎ (((f.k_slope ≡ g.k_slope) × (f.n_slope <ℤ g.n_slope))
+    ⊎ ((f.k_slope ≡ g.k_slope) × (f.n_slope ≡ g.n_slope) × (f.offset <ℤ g.offset)))
+
+-- a form within bounds, with a power from 1 to 2^32 - 1
+pub record IsFactor (x : Factor) : Type 0 where
+  pub form : IsForm x.form
+  pub some : 1 ≤ x.power
+  pub few : x.power < 2 ^ 32
+
+-- no form stands twice
+abbrev pub NoFormTwice : List Factor → Type 0
+NoFormTwice [] = Unit {0}
+NoFormTwice (x ∷ xs) = AllByRecursion (λ y. y.form ≢ x.form) xs × NoFormTwice xs
+
+-- each form before the next one
+abbrev pub IsSorted : List Factor → Type 0
+IsSorted [] = Unit {0}
+IsSorted (x ∷ xs) = AllByRecursion (λ y. IsBefore x.form y.form) xs × IsSorted xs
+
+pub record AreFactors (xs : List Factor) : Type 0 where
+  pub each : AllByRecursion IsFactor xs
+  pub distinct : NoFormTwice xs
+
+-- primitive forms, in their order
+pub record ArePrimitiveFactors (xs : List Factor) : Type 0 where
+  pub each : AllByRecursion IsFactor xs
+  pub primitive : AllByRecursion (λ x. IsPrimitive x.form) xs
+  pub sorted : IsSorted xs
+
+pub record IsFactorList (l : FactorList) : Type 0 where
+  pub scale : IsNumber l.scale
+  pub not_zero : l.scale ≢ pos 0
+  pub factors : ArePrimitiveFactors l.factors
+
+abbrev pub total_power : List Factor → ℕ
+total_power [] = 0
+total_power (x ∷ xs) = x.power + total_power xs
+
+-- k and n don't both have the slope 0
+abbrev pub IsNotConstant : LinearForm → Type 0
+IsNotConstant f = (f.n_slope ≢ pos 0) ⊎ (f.k_slope ≢ pos 0)
+
+-- what every proper term keeps, a carrier included: nothing is 0, fractions are in lowest terms, the forms of over are primitive
+pub record IsProper (f : ProperTerm) : Type 0 where
+  pub poly : IsPolynomial 2 f.poly
+  pub poly_not_zero : f.poly ≢ (level 2).ops.nought
+  pub scale : IsLowest f.scale
+  pub n_base : IsLowest f.n_base
+  pub k_base : IsLowest f.k_base
+  pub up : AreFactors f.up
+  pub down : AreFactors f.down
+  pub over : AreFactors f.over
+  pub over_primitive : AllByRecursion (λ x. IsPrimitive x.form × IsNotConstant x.form) f.over
+  pub guard : AreFactors f.guard
+
+abbrev pub AllWithinLimits : List Factor → Type 0
+AllWithinLimits xs = AllByRecursion (λ x. IsWithinLimits x.form) xs
+
+-- what a term besides keeps: no form both above and below, all forms within the limits, at most 24 factors before cancelling
+pub record IsPlain (f : ProperTerm) : Type 0 where
+  pub proper : IsProper f
+  pub cancelled : AllByRecursion (λ x. AllByRecursion (λ y. y.form ≢ x.form) f.down) f.up
+  pub up : AllWithinLimits f.up
+  pub down : AllWithinLimits f.down
+  pub over : AllWithinLimits f.over
+  pub guard : AllWithinLimits f.guard
+  pub few : total_power f.up + total_power f.down + total_power f.over + 2 * total_power f.guard ≤ 24
+
+-- a carrier has at most 168 factors
+pub record IsCarrier (f : ProperTerm) : Type 0 where
+  pub proper : IsProper f
+  pub few : total_power f.up + total_power f.down + total_power f.over + total_power f.guard ≤ 168
+
+pub record IsMatch (m : Match) : Type 0 where
+  pub form : IsForm m.form
+  pub shift : m.shift < 2 ^ 64
+  pub some : 1 ≤ m.power
+  pub few : m.power < 2 ^ 32
+
+abbrev pub IsRange : Option (LinearForm × LinearForm) → Type 0
+IsRange None = Unit {0}
+IsRange (Some ends) = IsForm ends.0 × IsForm ends.1
+
+pub record IsFound (f : Found) : Type 0 where
+  pub matches : AllByRecursion IsMatch f.matches
+  pub q : IsFactorList f.q
+  pub r : IsFactorList f.r
+  pub some_multiplier : f.claim.multipliers ≢ []
+  pub multipliers : AllByRecursion (IsPolynomial 1) f.claim.multipliers
+  pub carrier : IsCarrier f.claim.carrier
+  pub y : IsPolynomial 2 f.claim.y
+  pub poles : ArePrimitiveFactors f.claim.poles
+  pub ratio_top : IsFactorList f.claim.ratio_top
+  pub ratio_bottom : IsFactorList f.claim.ratio_bottom
+  pub range : IsRange f.range
+
+-- The subject of gosper is a plain term, and its one claim has order 0.
+pub record IsWellFormed (d : Document) : Type 0 where
+  pub term : IsPlain d.term
+  pub order : d.found.order ≡ 0
+  pub found : IsFound d.found

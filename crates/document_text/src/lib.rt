@@ -1,0 +1,2 @@
+//! Documents and their one text: the definitions that contracts cite.
+#![tactic(auto)]

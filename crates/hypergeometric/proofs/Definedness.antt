@@ -1,0 +1,56 @@
+-- Where a proper term is defined, its value is a fraction.
+use Rattle.std.proofs.Common.{ℕ, zero, suc, ◌<◌, arith, List, [], ◌∷◌}
+use Rattle.std.proofs.lemmas.Int.{ints}
+use Rattle.std.specs.Prelude.{ℤ, pos, negsuc, ◌≤ℤ◌}
+use Rattle.hypergeometric.proofs.FractionLaws.{one_not_zero, product_not_zero}
+use Rattle.hypergeometric.specs.Fraction.{Fraction, IsDefined, of_whole, fraction_inverse, natural_power, whole_power}
+use Rattle.hypergeometric.specs.LinearForm.{Factor, form_value, factorial, factorial_value, inverse_factorial_value, product_over}
+use Rattle.hypergeometric.specs.ProperTerm.{ProperTerm, NoneNegative, NoneZero, IsDefinedAt, proper_value, IsNonzero, HasFractions}
+
+pub natural_power_defined : (f : Fraction) (n : ℕ) → IsDefined f → IsDefined (natural_power f n)
+natural_power_defined f zero d = one_not_zero
+natural_power_defined f (suc n) d = product_not_zero _ _ d (natural_power_defined f n d)
+
+pub inverse_defined : (f : Fraction) → IsNonzero f → IsDefined (fraction_inverse f)
+inverse_defined f h = product_not_zero f.top f.bottom h.top h.bottom
+
+pub whole_power_defined : (f : Fraction) (z : ℤ) → IsNonzero f → IsDefined (whole_power f z)
+whole_power_defined f (pos n) h = natural_power_defined f n h.bottom
+whole_power_defined f (negsuc n) h = natural_power_defined (fraction_inverse f) (suc n) (inverse_defined f h)
+
+factorial_positive : (m : ℕ) → 0 < factorial m
+factorial_positive zero = omega arith
+factorial_positive (suc m) = grind (arith, factorial_positive m)
+
+factorial_value_defined : (z : ℤ) → pos 0 ≤ℤ z → IsDefined (factorial_value z)
+factorial_value_defined (pos m) h = one_not_zero
+factorial_value_defined (negsuc m) h = omega (arith, ints, h)
+
+inverse_factorial_value_defined : (z : ℤ) → IsDefined (inverse_factorial_value z)
+inverse_factorial_value_defined (pos m) = λ e. omega (arith, ints, e, factorial_positive m)
+inverse_factorial_value_defined (negsuc m) = one_not_zero
+
+up_defined : (xs : List Factor) (n k : ℤ) → NoneNegative xs n k → IsDefined (product_over factorial_value xs n k)
+up_defined [] n k h = one_not_zero
+up_defined (x ∷ xs) n k h =
+    product_not_zero _ _ (natural_power_defined _ x.power (factorial_value_defined _ h.0)) (up_defined xs n k h.1)
+
+down_defined : (xs : List Factor) (n k : ℤ) → IsDefined (product_over inverse_factorial_value xs n k)
+down_defined [] n k = one_not_zero
+down_defined (x ∷ xs) n k =
+    product_not_zero _ _ (natural_power_defined _ x.power (inverse_factorial_value_defined _)) (down_defined xs n k)
+
+over_defined : (xs : List Factor) (n k : ℤ) → NoneZero xs n k → IsDefined (product_over (λ z. fraction_inverse (of_whole z)) xs n k)
+over_defined [] n k h = one_not_zero
+over_defined (x ∷ xs) n k h =
+    product_not_zero _ _
+    (natural_power_defined (fraction_inverse (of_whole (form_value x.form n k))) x.power (product_not_zero _ _ h.0 one_not_zero))
+    (over_defined xs n k h.1)
+
+pub proper_value_defined : (f : ProperTerm) (n k : ℤ) → HasFractions f → IsDefinedAt f n k → IsDefined (proper_value f n k)
+proper_value_defined f n k t d =
+    product_not_zero _ _ t.scale.bottom (product_not_zero _ _ one_not_zero
+    (product_not_zero _ _ (whole_power_defined f.n_base n t.n_base)
+    (product_not_zero _ _ (whole_power_defined f.k_base k t.k_base)
+    (product_not_zero _ _ (up_defined f.up n k d.up)
+    (product_not_zero _ _ (down_defined f.down n k) (over_defined f.over n k d.over))))))

@@ -1,0 +1,3 @@
+pub mod FractionLaws
+pub mod Definedness
+pub mod RangeSums

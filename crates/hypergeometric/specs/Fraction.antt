@@ -1,0 +1,56 @@
+-- Fractions of whole numbers, and what it is for two of them to be equal. A fraction with the bottom 0 stands for a value that
+-- is not defined: sums and products with it have the bottom 0 too.
+use Rattle.std.specs.Prelude.{◌≡◌, ◌≢◌, ℕ, zero, suc, ℤ, pos, negsuc, ◌+ℤ◌, ◌*ℤ◌, neg_ℤ}
+
+pub record Fraction : Type 0 where
+  pub top : ℤ
+  pub bottom : ℤ
+
+abbrev pub IsDefined : Fraction → Type 0
+IsDefined f = f.bottom ≢ pos 0
+
+-- both are defined, and stand for one value
+pub record AreEqual (f g : Fraction) : Type 0 where
+  pub left_defined : IsDefined f
+  pub right_defined : IsDefined g
+  pub cross : f.top *ℤ g.bottom ≡ g.top *ℤ f.bottom
+
+infix 4 ◌≈◌
+abbrev pub ◌≈◌ : Fraction → Fraction → Type 0
+f ≈ g = AreEqual f g
+
+abbrev pub of_whole : ℤ → Fraction
+of_whole z = record { top = z; bottom = pos 1 }
+
+abbrev pub undefined_value : Fraction
+undefined_value = record { top = pos 1; bottom = pos 0 }
+
+abbrev pub fraction_sum : Fraction → Fraction → Fraction
+fraction_sum f g = record { top = f.top *ℤ g.bottom +ℤ g.top *ℤ f.bottom; bottom = f.bottom *ℤ g.bottom }
+
+abbrev pub fraction_negative : Fraction → Fraction
+fraction_negative f = record { top = neg_ℤ f.top; bottom = f.bottom }
+
+abbrev pub fraction_difference : Fraction → Fraction → Fraction
+fraction_difference f g = fraction_sum f (fraction_negative g)
+
+abbrev pub fraction_product : Fraction → Fraction → Fraction
+fraction_product f g = record { top = f.top *ℤ g.top; bottom = f.bottom *ℤ g.bottom }
+
+-- not defined for 0, nor for what is not defined
+abbrev pub fraction_inverse : Fraction → Fraction
+fraction_inverse f = record { top = f.bottom *ℤ f.bottom; bottom = f.top *ℤ f.bottom }
+
+abbrev pub natural_power : Fraction → ℕ → Fraction
+natural_power f zero = of_whole (pos 1)
+natural_power f (suc n) = fraction_product f (natural_power f n)
+
+-- a power of 0 below 0 is not defined
+abbrev pub whole_power : Fraction → ℤ → Fraction
+whole_power f (pos n) = natural_power f n
+whole_power f (negsuc n) = natural_power (fraction_inverse f) (suc n)
+
+-- f lo + f (lo + 1) + .., `count` summands
+abbrev pub sum_over_range : (ℤ → Fraction) → ℤ → ℕ → Fraction
+sum_over_range f lo zero = of_whole (pos 0)
+sum_over_range f lo (suc count) = fraction_sum (sum_over_range f lo count) (f (lo +ℤ pos count))

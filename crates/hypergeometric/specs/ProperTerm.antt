@@ -1,0 +1,59 @@
+-- Proper hypergeometric terms, where they are defined, and their values (A=B 4.4):
+--   scale * P(n,k) * n_base^n * k_base^k * prod A! * prod 1/U! / prod L, over A in up, U in down and L in over.
+-- guard has the forms whose factorials stood above and below and were cancelled: the term is defined only where they are at least 0.
+use Rattle.std.specs.Prelude.{◌≢◌, ℤ, pos, ◌≤ℤ◌, List, [], ◌∷◌}
+use Rattle.ring_laws.specs.Meaning.{Meaning}
+use Rattle.poly_laws.specs.Values.{value_at}
+use Rattle.hypergeometric.specs.Fraction.{Fraction, of_whole, fraction_product, fraction_inverse, whole_power}
+use Rattle.hypergeometric.specs.LinearForm.{Factor, form_value, product_over, factorial_value, inverse_factorial_value}
+
+-- poly is a polynomial in k whose coefficients are polynomials in n
+pub record ProperTerm : Type 0 where
+  pub poly : Meaning
+  pub scale : Fraction
+  pub n_base : Fraction
+  pub k_base : Fraction
+  pub up : List Factor
+  pub down : List Factor
+  pub over : List Factor
+  pub guard : List Factor
+
+-- the value of a polynomial in k and n
+abbrev pub poly_value : Meaning → ℤ → ℤ → ℤ
+poly_value p n k = value_at (k ∷ n ∷ []) p
+
+-- the value of a polynomial in n
+abbrev pub value_in_n : Meaning → ℤ → ℤ
+value_in_n p n = value_at (n ∷ []) p
+
+abbrev pub NoneNegative : List Factor → ℤ → ℤ → Type 0
+NoneNegative [] n k = Unit {0}
+NoneNegative (x ∷ xs) n k = (pos 0 ≤ℤ form_value x.form n k) × NoneNegative xs n k
+
+abbrev pub NoneZero : List Factor → ℤ → ℤ → Type 0
+NoneZero [] n k = Unit {0}
+NoneZero (x ∷ xs) n k = (form_value x.form n k ≢ pos 0) × NoneZero xs n k
+
+-- the term is defined at (n, k)
+pub record IsDefinedAt (f : ProperTerm) (n k : ℤ) : Type 0 where
+  pub up : NoneNegative f.up n k
+  pub guard : NoneNegative f.guard n k
+  pub over : NoneZero f.over n k
+
+abbrev pub proper_value : ProperTerm → ℤ → ℤ → Fraction
+proper_value f n k =
+    fraction_product f.scale (fraction_product (of_whole (poly_value f.poly n k))
+    (fraction_product (whole_power f.n_base n) (fraction_product (whole_power f.k_base k)
+    (fraction_product (product_over factorial_value f.up n k) (fraction_product (product_over inverse_factorial_value f.down n k)
+    (product_over (λ z. fraction_inverse (of_whole z)) f.over n k))))))
+
+-- defined and not 0
+pub record IsNonzero (f : Fraction) : Type 0 where
+  pub top : f.top ≢ pos 0
+  pub bottom : f.bottom ≢ pos 0
+
+-- The scale and the bases are fractions other than 0. Then the value is a fraction wherever the term is defined.
+pub record HasFractions (f : ProperTerm) : Type 0 where
+  pub scale : IsNonzero f.scale
+  pub n_base : IsNonzero f.n_base
+  pub k_base : IsNonzero f.k_base
