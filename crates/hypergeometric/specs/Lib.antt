@@ -6,3 +6,4 @@ pub mod TreePolynomial
 pub mod TreeValue
 pub mod Claim
 pub mod Telescopes
+pub mod PlainTerm
