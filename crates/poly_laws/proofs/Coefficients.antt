@@ -34,7 +34,8 @@ module _ (a : Algebra) (c : Closed a) where
 
   pub meanings-product : (xs ys : List (Passing a)) → meanings_of (list_product o xs ys) ≡ list_product a.ops (meanings_of xs) (meanings_of ys)
   meanings-product [] ys = refl
-  meanings-product (x ∷ xs) ys = cc (meanings-sum (map (o.product x) ys) (o.nought ∷ list_product o xs ys), meanings-scale x ys, meanings-product xs ys)
+  meanings-product (x ∷ xs) ys =
+      cc (meanings-sum (map (o.product x) ys) (o.nought ∷ list_product o xs ys), meanings-scale x ys, meanings-product xs ys)
 
   meanings_cond : (b : Bool) (x : Passing a) → meanings_of (cond b [] (x ∷ [])) ≡ cond b [] (x.0 ∷ [])
   meanings_cond true x = refl
@@ -83,7 +84,8 @@ module _ (a : Algebra) (c : Closed a) where
   pub meanings-coefficients : (x : Passing (poly_algebra a)) → meanings_of (coefficients x) ≡ items x.0
   unfolding coefficients
   meanings-coefficients (number z, h) = refl
-  meanings-coefficients (several xs, h) = meanings-attach (parted xs) (and_parts (every_passes a.passes (parted xs)) (is_trimmed a.ops (parted xs)) h).0
+  meanings-coefficients (several xs, h) =
+      meanings-attach (parted xs) (and_parts (every_passes a.passes (parted xs)) (is_trimmed a.ops (parted xs)) h).0
 
   items_trimmed : (x : Passing (poly_algebra a)) → IsTrue (is_trimmed a.ops (items x.0))
   items_trimmed (number z, h) = refl
@@ -97,7 +99,8 @@ module _ (a : Algebra) (c : Closed a) where
   listed-items (several xs, h) = ap several (joined-parted xs)
 
   pub coefficients_same : (x y : Passing (poly_algebra a)) → coefficients x ≡ coefficients y → x ≡ y
-  coefficients_same x y e = same_passing (poly_algebra a) x y (cc (listed-items x, listed-items y, meanings-coefficients x, meanings-coefficients y, ap meanings_of e))
+  coefficients_same x y e =
+      same_passing (poly_algebra a) x y (cc (listed-items x, listed-items y, meanings-coefficients x, meanings-coefficients y, ap meanings_of e))
 
   -- a trimmed list of what belongs to the ring belongs to the polynomials
   pub trimmed_passes : (xs : List (Passing a)) (m : List Meaning) → meanings_of (trimmed o xs) ≡ m → IsTrue (poly_passes a (listed m))
@@ -107,16 +110,29 @@ module _ (a : Algebra) (c : Closed a) where
       (ap (every_passes a.passes) p ∙ meanings_pass (trimmed o xs))
       (ap (is_trimmed a.ops) p ∙ meanings-is_trimmed (trimmed o xs) ∙ is_trimmed_trimmed o xs)
 
-  pub sum_is : (x y : Passing (poly_algebra a)) → meanings_of (trimmed o (list_sum o (coefficients x) (coefficients y))) ≡ trimmed a.ops (list_sum a.ops (items x.0) (items y.0))
-  sum_is x y = cc (meanings-trimmed (list_sum o (coefficients x) (coefficients y)), meanings-sum (coefficients x) (coefficients y), meanings-coefficients x, meanings-coefficients y)
+  pub sum_is : (x y : Passing (poly_algebra a)) → meanings_of (trimmed o (list_sum o (coefficients x) (coefficients y)))
+      ≡ trimmed a.ops (list_sum a.ops (items x.0) (items y.0))
+  sum_is x y = cc (
+    meanings-trimmed (list_sum o (coefficients x) (coefficients y)),
+    meanings-sum (coefficients x) (coefficients y),
+    meanings-coefficients x,
+    meanings-coefficients y,
+  )
 
-  pub product_is : (x y : Passing (poly_algebra a)) → meanings_of (trimmed o (list_product o (coefficients x) (coefficients y))) ≡ trimmed a.ops (list_product a.ops (items x.0) (items y.0))
-  product_is x y = cc (meanings-trimmed (list_product o (coefficients x) (coefficients y)), meanings-product (coefficients x) (coefficients y), meanings-coefficients x, meanings-coefficients y)
+  pub product_is : (x y : Passing (poly_algebra a)) → meanings_of (trimmed o (list_product o (coefficients x) (coefficients y)))
+      ≡ trimmed a.ops (list_product a.ops (items x.0) (items y.0))
+  product_is x y = cc (
+    meanings-trimmed (list_product o (coefficients x) (coefficients y)),
+    meanings-product (coefficients x) (coefficients y),
+    meanings-coefficients x,
+    meanings-coefficients y,
+  )
 
   pub neg_is : (x : Passing (poly_algebra a)) → meanings_of (trimmed o (map o.neg (coefficients x))) ≡ trimmed a.ops (map a.ops.neg (items x.0))
   neg_is x = cc (meanings-trimmed (map o.neg (coefficients x)), meanings-neg (coefficients x), meanings-coefficients x)
 
-  pub magnitude_is : (x : Passing (poly_algebra a)) → meanings_of (trimmed o (map o.magnitude (coefficients x))) ≡ trimmed a.ops (map a.ops.magnitude (items x.0))
+  pub magnitude_is : (x : Passing (poly_algebra a)) → meanings_of (trimmed o (map o.magnitude (coefficients x)))
+      ≡ trimmed a.ops (map a.ops.magnitude (items x.0))
   magnitude_is x = cc (meanings-trimmed (map o.magnitude (coefficients x)), meanings-magnitude (coefficients x), meanings-coefficients x)
 
   abbrev pub poly_closed : Closed (poly_algebra a)
@@ -126,7 +142,8 @@ module _ (a : Algebra) (c : Closed a) where
     whole = λ w. trimmed_passes (o.whole w ∷ []) (trimmed a.ops (a.ops.whole w ∷ [])) (meanings-trimmed (o.whole w ∷ []));
     neg = λ x. trimmed_passes (map o.neg (coefficients x)) (trimmed a.ops (map a.ops.neg (items x.0))) (neg_is x);
     sum = λ x y. trimmed_passes (list_sum o (coefficients x) (coefficients y)) (trimmed a.ops (list_sum a.ops (items x.0) (items y.0))) (sum_is x y);
-    product = λ x y. trimmed_passes (list_product o (coefficients x) (coefficients y)) (trimmed a.ops (list_product a.ops (items x.0) (items y.0))) (product_is x y);
+    product = λ x y. trimmed_passes (list_product o (coefficients x) (coefficients y)) (trimmed a.ops (list_product a.ops (items x.0) (items y.0)))
+        (product_is x y);
     magnitude = λ x. trimmed_passes (map o.magnitude (coefficients x)) (trimmed a.ops (map a.ops.magnitude (items x.0))) (magnitude_is x);
   }
 
@@ -134,20 +151,26 @@ module _ (a : Algebra) (c : Closed a) where
   poly = within (poly_algebra a) poly_closed
 
   -- a polynomial whose list is a trimmed one has that list's coefficients
-  coefficients_are : (w : Passing (poly_algebra a)) (xs : List (Passing a)) (m : List Meaning) → w.0 ≡ listed m → meanings_of (trimmed o xs) ≡ m → coefficients w ≡ trimmed o xs
+  coefficients_are : (w : Passing (poly_algebra a)) (xs : List (Passing a)) (m : List Meaning) → w.0 ≡ listed m → meanings_of (trimmed o xs) ≡ m
+      → coefficients w ≡ trimmed o xs
   coefficients_are w xs m e f = meanings_same (coefficients w) (trimmed o xs) (cc (meanings-coefficients w, parted-joined m, f))
 
   pub coefficients-sum : (x y : Passing (poly_algebra a)) → coefficients (poly.sum x y) ≡ trimmed o (list_sum o (coefficients x) (coefficients y))
-  coefficients-sum x y = coefficients_are (poly.sum x y) (list_sum o (coefficients x) (coefficients y)) (trimmed a.ops (list_sum a.ops (items x.0) (items y.0))) refl (sum_is x y)
+  coefficients-sum x y = coefficients_are (poly.sum x y) (list_sum o (coefficients x) (coefficients y))
+      (trimmed a.ops (list_sum a.ops (items x.0) (items y.0))) refl (sum_is x y)
 
-  pub coefficients-product : (x y : Passing (poly_algebra a)) → coefficients (poly.product x y) ≡ trimmed o (list_product o (coefficients x) (coefficients y))
-  coefficients-product x y = coefficients_are (poly.product x y) (list_product o (coefficients x) (coefficients y)) (trimmed a.ops (list_product a.ops (items x.0) (items y.0))) refl (product_is x y)
+  pub coefficients-product : (x y : Passing (poly_algebra a))
+      → coefficients (poly.product x y) ≡ trimmed o (list_product o (coefficients x) (coefficients y))
+  coefficients-product x y =
+      coefficients_are (poly.product x y) (list_product o (coefficients x) (coefficients y))
+      (trimmed a.ops (list_product a.ops (items x.0) (items y.0))) refl (product_is x y)
 
   pub coefficients-neg : (x : Passing (poly_algebra a)) → coefficients (poly.neg x) ≡ trimmed o (map o.neg (coefficients x))
   coefficients-neg x = coefficients_are (poly.neg x) (map o.neg (coefficients x)) (trimmed a.ops (map a.ops.neg (items x.0))) refl (neg_is x)
 
   pub coefficients-magnitude : (x : Passing (poly_algebra a)) → coefficients (poly.magnitude x) ≡ trimmed o (map o.magnitude (coefficients x))
-  coefficients-magnitude x = coefficients_are (poly.magnitude x) (map o.magnitude (coefficients x)) (trimmed a.ops (map a.ops.magnitude (items x.0))) refl (magnitude_is x)
+  coefficients-magnitude x =
+      coefficients_are (poly.magnitude x) (map o.magnitude (coefficients x)) (trimmed a.ops (map a.ops.magnitude (items x.0))) refl (magnitude_is x)
 
   pub coefficients-nought : coefficients poly.nought ≡ []
   coefficients-nought = coefficients_are poly.nought [] [] refl refl
@@ -156,4 +179,5 @@ module _ (a : Algebra) (c : Closed a) where
   coefficients-unit = coefficients_are poly.unit (o.unit ∷ []) (trimmed a.ops (a.ops.unit ∷ [])) refl (meanings-trimmed (o.unit ∷ []))
 
   pub coefficients-whole : (w : ℤ) → coefficients (poly.whole w) ≡ trimmed o (o.whole w ∷ [])
-  coefficients-whole w = coefficients_are (poly.whole w) (o.whole w ∷ []) (trimmed a.ops (a.ops.whole w ∷ [])) refl (meanings-trimmed (o.whole w ∷ []))
+  coefficients-whole w = coefficients_are (poly.whole w) (o.whole w ∷ []) (trimmed a.ops (a.ops.whole w ∷ [])) refl
+      (meanings-trimmed (o.whole w ∷ []))

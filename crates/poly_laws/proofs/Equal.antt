@@ -26,7 +26,8 @@ level_keeps zero (v ∷ rest) e = absurd (omega arith)
 level_keeps (suc n) [] e = absurd (omega arith)
 level_keeps (suc n) (v ∷ rest) e = poly_keeps (level n).ops (value_at rest) (level_keeps n rest (omega arith)) v
 
-horner_firsts : (a : Algebra) (c : Closed a) (f : Meaning → ℤ) (v : ℤ) (xs : List (Passing a)) → horner (λ (y : Passing a). f y.0) v xs ≡ horner f v (meanings_of a c xs)
+horner_firsts : (a : Algebra) (c : Closed a) (f : Meaning → ℤ) (v : ℤ) (xs : List (Passing a))
+    → horner (λ (y : Passing a). f y.0) v xs ≡ horner f v (meanings_of a c xs)
 horner_firsts a c f v [] = refl
 horner_firsts a c f v (x ∷ xs) = ap (λ (z : ℤ). f x.0 +ℤ v *ℤ z) (horner_firsts a c f v xs)
 
@@ -49,7 +50,8 @@ nought_only (suc n) x h =
     (λ v _. horner_firsts a c (value_at rest) v xs ∙ ap (horner (value_at rest) v) (meanings-coefficients a c x) ∙ h (v ∷ rest) (ap suc e)) in
     ap (λ (t : Passing (poly_algebra (level n))). t.0)
     (equal_coefficients a c r x (within (poly_algebra a) (poly_closed a c)).nought
-    (λ k. same_passing a (coefficient_at o xs k) o.nought (nought_only n (coefficient_at o xs k) (λ rest e. zeros rest e k)) ∙ sym (coefficient-nought a c r k)))
+    (λ k. same_passing a (coefficient_at o xs k) o.nought (nought_only n (coefficient_at o xs k) (λ rest e. zeros rest e k))
+    ∙ sym (coefficient-nought a c r k)))
 
 no_difference : {A : Type 0} (o : Ops A) (l : RingLaws o) (x y : A) → o.sum x (o.neg y) ≡ o.nought → x ≡ y
 no_difference o l x y e =

@@ -22,18 +22,25 @@ module _ (a : Algebra) (c : Closed a) (l : RingLaws (within a c)) (m : Magnitude
   coefficient x k = coefficient_at base (coefficients a c x) k
 
   pub coefficient-magnitude : (x : Passing (poly_algebra a)) (k : ℕ) → coefficient (poly.magnitude x) k ≡ base.magnitude (coefficient x k)
-  coefficient-magnitude x k = trimmed_at a c l (poly.magnitude x) (magnitudes_of base l m (coefficients a c x)) (coefficients-magnitude a c x) k ∙ at_magnitudes base l m (coefficients a c x) k
+  coefficient-magnitude x k = trimmed_at a c l (poly.magnitude x) (magnitudes_of base l m (coefficients a c x)) (coefficients-magnitude a c x) k
+      ∙ at_magnitudes base l m (coefficients a c x) k
 
-  pub coefficient-magnitudes : (x : Passing (poly_algebra a)) (k : ℕ) → coefficient (poly.magnitude x) k ≡ coefficient_at base (magnitudes_of base l m (coefficients a c x)) k
+  pub coefficient-magnitudes : (x : Passing (poly_algebra a)) (k : ℕ)
+      → coefficient (poly.magnitude x) k ≡ coefficient_at base (magnitudes_of base l m (coefficients a c x)) k
   coefficient-magnitudes x k = trimmed_at a c l (poly.magnitude x) (magnitudes_of base l m (coefficients a c x)) (coefficients-magnitude a c x) k
 
   -- the sum of two magnitudes
-  pub coefficient-magnitude_sum : (x y : Passing (poly_algebra a)) (k : ℕ) → coefficient (poly.sum (poly.magnitude x) (poly.magnitude y)) k ≡ base.sum (base.magnitude (coefficient x k)) (base.magnitude (coefficient y k))
-  coefficient-magnitude_sum x y k = cc (coefficient-sum a c l (poly.magnitude x) (poly.magnitude y) k, coefficient-magnitude x k, coefficient-magnitude y k)
+  pub coefficient-magnitude_sum : (x y : Passing (poly_algebra a)) (k : ℕ) → coefficient (poly.sum (poly.magnitude x) (poly.magnitude y)) k
+      ≡ base.sum (base.magnitude (coefficient x k)) (base.magnitude (coefficient y k))
+  coefficient-magnitude_sum x y k =
+      cc (coefficient-sum a c l (poly.magnitude x) (poly.magnitude y) k, coefficient-magnitude x k, coefficient-magnitude y k)
 
   -- the product of two magnitudes
-  pub coefficient-magnitude_product : (x y : Passing (poly_algebra a)) (k : ℕ) → coefficient (poly.product (poly.magnitude x) (poly.magnitude y)) k ≡ coefficient_at base (list_product base (magnitudes_of base l m (coefficients a c x)) (magnitudes_of base l m (coefficients a c y))) k
-  coefficient-magnitude_product x y k = product_same a c l (poly.magnitude x) (poly.magnitude y) (magnitudes_of base l m (coefficients a c x)) (magnitudes_of base l m (coefficients a c y)) (coefficient-magnitudes x) (coefficient-magnitudes y) k
+  pub coefficient-magnitude_product : (x y : Passing (poly_algebra a)) (k : ℕ) → coefficient (poly.product (poly.magnitude x) (poly.magnitude y)) k
+      ≡ coefficient_at base (list_product base (magnitudes_of base l m (coefficients a c x)) (magnitudes_of base l m (coefficients a c y))) k
+  coefficient-magnitude_product x y k =
+      product_same a c l (poly.magnitude x) (poly.magnitude y) (magnitudes_of base l m (coefficients a c x))
+      (magnitudes_of base l m (coefficients a c y)) (coefficient-magnitudes x) (coefficient-magnitudes y) k
 
   pub meanings-at : (xs : List (Passing a)) (k : ℕ) → coefficient_at a.ops (meanings_of a c xs) k ≡ (coefficient_at base xs k).0
   meanings-at [] k = refl
@@ -66,7 +73,9 @@ module _ (a : Algebra) (c : Closed a) (l : RingLaws (within a c)) (m : Magnitude
   CoversAt x y = (k : ℕ) → base.Covers (coefficient x k) (coefficient y k)
 
   pub covers_at : (x y : Passing (poly_algebra a)) → poly.Covers x y → CoversAt x y
-  covers_at x y h k = subst (λ t. a.ops.Covers t (coefficient y k).0) (item_at x k) (subst (λ t. a.ops.Covers (coefficient_at a.ops (items x.0) k) t) (item_at y k) (h k))
+  covers_at x y h k = subst (λ t. a.ops.Covers t (coefficient y k).0) (item_at x k)
+      (subst (λ t. a.ops.Covers (coefficient_at a.ops (items x.0) k) t) (item_at y k) (h k))
 
   pub at_covers : (x y : Passing (poly_algebra a)) → CoversAt x y → poly.Covers x y
-  at_covers x y h k = subst (λ t. a.ops.Covers t (coefficient_at a.ops (items y.0) k)) (sym (item_at x k)) (subst (λ t. a.ops.Covers (coefficient x k).0 t) (sym (item_at y k)) (h k))
+  at_covers x y h k = subst (λ t. a.ops.Covers t (coefficient_at a.ops (items y.0) k)) (sym (item_at x k))
+      (subst (λ t. a.ops.Covers (coefficient x k).0 t) (sym (item_at y k)) (h k))

@@ -33,7 +33,9 @@ module _ (a : Algebra) (c : Closed a) (f : Passing a → ℤ) (k : KeepsOps (wit
         unit = of_parts p.unit (r.unit ∷ []) (coefficients-unit a c) ∙ horner_one r f k v r.unit ∙ k.unit;
         whole = λ w. of_parts (p.whole w) (r.whole w ∷ []) (coefficients-whole a c w) ∙ horner_one r f k v (r.whole w) ∙ k.whole w;
         neg = λ x. of_parts (p.neg x) (map r.neg (coefficients a c x)) (coefficients-neg a c x) ∙ horner_neg r f k v (coefficients a c x);
-        sum = λ x y. of_parts (p.sum x y) (list_sum r (coefficients a c x) (coefficients a c y)) (coefficients-sum a c x y) ∙ horner_sum r f k v (coefficients a c x) (coefficients a c y);
-        product = λ x y. of_parts (p.product x y) (list_product r (coefficients a c x) (coefficients a c y)) (coefficients-product a c x y) ∙ horner_product r f k v (coefficients a c x) (coefficients a c y);
+        sum = λ x y. of_parts (p.sum x y) (list_sum r (coefficients a c x) (coefficients a c y)) (coefficients-sum a c x y)
+            ∙ horner_sum r f k v (coefficients a c x) (coefficients a c y);
+        product = λ x y. of_parts (p.product x y) (list_product r (coefficients a c x) (coefficients a c y)) (coefficients-product a c x y)
+            ∙ horner_product r f k v (coefficients a c x) (coefficients a c y);
         is_nought = λ x h. empty_only (coefficients a c x) (items x.0) (meanings-coefficients a c x) h;
       }

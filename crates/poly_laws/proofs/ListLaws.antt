@@ -44,12 +44,17 @@ module _ {A : Type 0} (o : Ops A) (l : RingLaws o) where
   at_neg (x ∷ xs) (suc k) = at_neg xs k
 
   pub times_zero : (x : A) (xs ys : List A) → coefficient_at o (list_product o (x ∷ xs) ys) 0 ≡ o.product x (coefficient_at o ys 0)
-  times_zero x xs ys = at_sum (map (o.product x) ys) (o.nought ∷ list_product o xs ys) 0 ∙ sum_nought (coefficient_at o (map (o.product x) ys) 0) ∙ at_scale x ys 0
+  times_zero x xs ys = at_sum (map (o.product x) ys) (o.nought ∷ list_product o xs ys) 0 ∙ sum_nought (coefficient_at o (map (o.product x) ys) 0)
+      ∙ at_scale x ys 0
 
-  pub times_suc : (x : A) (xs ys : List A) (k : ℕ) → coefficient_at o (list_product o (x ∷ xs) ys) (suc k) ≡ o.sum (o.product x (coefficient_at o ys (suc k))) (coefficient_at o (list_product o xs ys) k)
-  times_suc x xs ys k = at_sum (map (o.product x) ys) (o.nought ∷ list_product o xs ys) (suc k) ∙ ap (λ t. o.sum t (coefficient_at o (list_product o xs ys) k)) (at_scale x ys (suc k))
+  pub times_suc : (x : A) (xs ys : List A) (k : ℕ)
+      → coefficient_at o (list_product o (x ∷ xs) ys) (suc k)
+      ≡ o.sum (o.product x (coefficient_at o ys (suc k))) (coefficient_at o (list_product o xs ys) k)
+  times_suc x xs ys k = at_sum (map (o.product x) ys) (o.nought ∷ list_product o xs ys) (suc k)
+      ∙ ap (λ t. o.sum t (coefficient_at o (list_product o xs ys) k)) (at_scale x ys (suc k))
 
-  pub times_same_right : (xs ys zs : List A) → SameCoefficients o ys zs → (k : ℕ) → coefficient_at o (list_product o xs ys) k ≡ coefficient_at o (list_product o xs zs) k
+  pub times_same_right : (xs ys zs : List A) → SameCoefficients o ys zs → (k : ℕ)
+      → coefficient_at o (list_product o xs ys) k ≡ coefficient_at o (list_product o xs zs) k
   times_same_right [] ys zs e k = refl
   times_same_right (x ∷ xs) ys zs e zero = cc (times_zero x xs ys, times_zero x xs zs, e zero)
   times_same_right (x ∷ xs) ys zs e (suc k) = cc (times_suc x xs ys k, times_suc x xs zs k, e (suc k), times_same_right xs ys zs e k)
@@ -63,22 +68,47 @@ module _ {A : Type 0} (o : Ops A) (l : RingLaws o) where
   times_cons_zero [] y ys = sym (nought_product y)
   times_cons_zero (x ∷ xs) y ys = times_zero x xs (y ∷ ys)
 
-  pub times_cons_suc : (xs : List A) (y : A) (ys : List A) (k : ℕ) → coefficient_at o (list_product o xs (y ∷ ys)) (suc k) ≡ o.sum (o.product (coefficient_at o xs (suc k)) y) (coefficient_at o (list_product o xs ys) k)
+  pub times_cons_suc : (xs : List A) (y : A) (ys : List A) (k : ℕ)
+      → coefficient_at o (list_product o xs (y ∷ ys)) (suc k)
+      ≡ o.sum (o.product (coefficient_at o xs (suc k)) y) (coefficient_at o (list_product o xs ys) k)
   times_cons_suc [] y ys k = cc (nought_product y, l.nought_sum o.nought)
-  times_cons_suc (x ∷ xs) y ys zero = cc (times_suc x xs (y ∷ ys) zero, times_cons_zero xs y ys, times_zero x xs ys, l.sum_comm (o.product x (coefficient_at o ys 0)) (o.product (coefficient_at o xs 0) y))
-  times_cons_suc (x ∷ xs) y ys (suc k) = cc (times_suc x xs (y ∷ ys) (suc k), times_cons_suc xs y ys k, times_suc x xs ys k, swap (o.product x (coefficient_at o ys (suc k))) (o.product (coefficient_at o xs (suc k)) y) (coefficient_at o (list_product o xs ys) k))
+  times_cons_suc (x ∷ xs) y ys zero =
+      cc (
+        times_suc x xs (y ∷ ys) zero,
+        times_cons_zero xs y ys,
+        times_zero x xs ys,
+        l.sum_comm (o.product x (coefficient_at o ys 0)) (o.product (coefficient_at o xs 0) y),
+      )
+  times_cons_suc (x ∷ xs) y ys (suc k) =
+      cc (
+        times_suc x xs (y ∷ ys) (suc k),
+        times_cons_suc xs y ys k,
+        times_suc x xs ys k,
+        swap (o.product x (coefficient_at o ys (suc k))) (o.product (coefficient_at o xs (suc k)) y) (coefficient_at o (list_product o xs ys) k),
+      )
 
   pub times_comm : (xs ys : List A) (k : ℕ) → coefficient_at o (list_product o xs ys) k ≡ coefficient_at o (list_product o ys xs) k
   times_comm [] ys k = sym (times_none ys k)
   times_comm (x ∷ xs) ys zero = times_zero x xs ys ∙ l.product_comm x (coefficient_at o ys 0) ∙ sym (times_cons_zero ys x xs)
-  times_comm (x ∷ xs) ys (suc k) = cc (times_suc x xs ys k, times_cons_suc ys x xs k, l.product_comm x (coefficient_at o ys (suc k)), times_comm xs ys k)
+  times_comm (x ∷ xs) ys (suc k) =
+      cc (times_suc x xs ys k, times_cons_suc ys x xs k, l.product_comm x (coefficient_at o ys (suc k)), times_comm xs ys k)
 
-  pub times_same_left : (xs ys zs : List A) → SameCoefficients o xs ys → (k : ℕ) → coefficient_at o (list_product o xs zs) k ≡ coefficient_at o (list_product o ys zs) k
+  pub times_same_left : (xs ys zs : List A) → SameCoefficients o xs ys → (k : ℕ)
+      → coefficient_at o (list_product o xs zs) k ≡ coefficient_at o (list_product o ys zs) k
   times_same_left xs ys zs e k = times_comm xs zs k ∙ times_same_right zs xs ys e k ∙ times_comm zs ys k
 
-  pub times_sum : (xs ys zs : List A) (k : ℕ) → coefficient_at o (list_product o xs (list_sum o ys zs)) k ≡ o.sum (coefficient_at o (list_product o xs ys) k) (coefficient_at o (list_product o xs zs) k)
+  pub times_sum : (xs ys zs : List A) (k : ℕ)
+      → coefficient_at o (list_product o xs (list_sum o ys zs)) k
+      ≡ o.sum (coefficient_at o (list_product o xs ys) k) (coefficient_at o (list_product o xs zs) k)
   times_sum [] ys zs k = sym (l.nought_sum o.nought)
-  times_sum (x ∷ xs) ys zs zero = cc (times_zero x xs (list_sum o ys zs), at_sum ys zs 0, l.distributes x (coefficient_at o ys 0) (coefficient_at o zs 0), times_zero x xs ys, times_zero x xs zs)
+  times_sum (x ∷ xs) ys zs zero =
+      cc (
+        times_zero x xs (list_sum o ys zs),
+        at_sum ys zs 0,
+        l.distributes x (coefficient_at o ys 0) (coefficient_at o zs 0),
+        times_zero x xs ys,
+        times_zero x xs zs,
+      )
   times_sum (x ∷ xs) ys zs (suc k) =
       cc (
         times_suc x xs (list_sum o ys zs) k,
@@ -87,15 +117,20 @@ module _ {A : Type 0} (o : Ops A) (l : RingLaws o) where
         times_sum xs ys zs k,
         times_suc x xs ys k,
         times_suc x xs zs k,
-        interchange (o.product x (coefficient_at o ys (suc k))) (o.product x (coefficient_at o zs (suc k))) (coefficient_at o (list_product o xs ys) k) (coefficient_at o (list_product o xs zs) k),
+        interchange (o.product x (coefficient_at o ys (suc k))) (o.product x (coefficient_at o zs (suc k)))
+            (coefficient_at o (list_product o xs ys) k) (coefficient_at o (list_product o xs zs) k),
       )
 
-  pub times_sum_left : (xs ys zs : List A) (k : ℕ) → coefficient_at o (list_product o (list_sum o xs ys) zs) k ≡ o.sum (coefficient_at o (list_product o xs zs) k) (coefficient_at o (list_product o ys zs) k)
+  pub times_sum_left : (xs ys zs : List A) (k : ℕ)
+      → coefficient_at o (list_product o (list_sum o xs ys) zs) k
+      ≡ o.sum (coefficient_at o (list_product o xs zs) k) (coefficient_at o (list_product o ys zs) k)
   times_sum_left xs ys zs k = cc (times_comm (list_sum o xs ys) zs k, times_sum zs xs ys k, times_comm zs xs k, times_comm zs ys k)
 
-  pub times_scale : (x : A) (ys zs : List A) (k : ℕ) → coefficient_at o (list_product o (map (o.product x) ys) zs) k ≡ o.product x (coefficient_at o (list_product o ys zs) k)
+  pub times_scale : (x : A) (ys zs : List A) (k : ℕ) → coefficient_at o (list_product o (map (o.product x) ys) zs) k
+      ≡ o.product x (coefficient_at o (list_product o ys zs) k)
   times_scale x [] zs k = sym (product_nought x)
-  times_scale x (y ∷ ys) zs zero = cc (times_zero (o.product x y) (map (o.product x) ys) zs, times_zero y ys zs, l.product_assoc x y (coefficient_at o zs 0))
+  times_scale x (y ∷ ys) zs zero =
+      cc (times_zero (o.product x y) (map (o.product x) ys) zs, times_zero y ys zs, l.product_assoc x y (coefficient_at o zs 0))
   times_scale x (y ∷ ys) zs (suc k) =
       cc (
         times_suc (o.product x y) (map (o.product x) ys) zs k,
@@ -105,7 +140,8 @@ module _ {A : Type 0} (o : Ops A) (l : RingLaws o) where
         l.distributes x (o.product y (coefficient_at o zs (suc k))) (coefficient_at o (list_product o ys zs) k),
       )
 
-  pub times_assoc : (xs ys zs : List A) (k : ℕ) → coefficient_at o (list_product o (list_product o xs ys) zs) k ≡ coefficient_at o (list_product o xs (list_product o ys zs)) k
+  pub times_assoc : (xs ys zs : List A) (k : ℕ) → coefficient_at o (list_product o (list_product o xs ys) zs) k
+      ≡ coefficient_at o (list_product o xs (list_product o ys zs)) k
   times_assoc [] ys zs k = refl
   times_assoc (x ∷ xs) ys zs zero =
       cc (
@@ -129,4 +165,5 @@ module _ {A : Type 0} (o : Ops A) (l : RingLaws o) where
 
   pub times_unit : (ys : List A) (k : ℕ) → coefficient_at o (list_product o (o.unit ∷ []) ys) k ≡ coefficient_at o ys k
   times_unit ys zero = times_zero o.unit [] ys ∙ l.unit_product (coefficient_at o ys 0)
-  times_unit ys (suc k) = times_suc o.unit [] ys k ∙ sum_nought (o.product o.unit (coefficient_at o ys (suc k))) ∙ l.unit_product (coefficient_at o ys (suc k))
+  times_unit ys (suc k) = times_suc o.unit [] ys k ∙ sum_nought (o.product o.unit (coefficient_at o ys (suc k)))
+      ∙ l.unit_product (coefficient_at o ys (suc k))

@@ -38,22 +38,30 @@ module _ {A : Type 0} (o : Ops A) (l : RingLaws o) (m : MagnitudeLaws o) where
   pub right_part : (x y : A) → o.magnitude x ≡ x → o.Covers (o.sum x y) y
   right_part x y e = covers_by (l.sum_comm x y) refl (left_part y x e)
 
-  pub times_magnitude : (xs ys : List A) (k : ℕ) → o.magnitude (coefficient_at o (list_product o (magnitudes_of xs) (magnitudes_of ys)) k) ≡ coefficient_at o (list_product o (magnitudes_of xs) (magnitudes_of ys)) k
+  pub times_magnitude : (xs ys : List A) (k : ℕ) → o.magnitude (coefficient_at o (list_product o (magnitudes_of xs) (magnitudes_of ys)) k)
+      ≡ coefficient_at o (list_product o (magnitudes_of xs) (magnitudes_of ys)) k
   times_magnitude [] ys k = m.of_nought
-  times_magnitude (x ∷ xs) ys zero = cc (times_zero o l (o.magnitude x) (magnitudes_of xs) (magnitudes_of ys), at_magnitudes ys 0, m.of_product x (coefficient_at o ys 0))
+  times_magnitude (x ∷ xs) ys zero =
+      cc (times_zero o l (o.magnitude x) (magnitudes_of xs) (magnitudes_of ys), at_magnitudes ys 0, m.of_product x (coefficient_at o ys 0))
   times_magnitude (x ∷ xs) ys (suc k) =
       cc (
         times_suc o l (o.magnitude x) (magnitudes_of xs) (magnitudes_of ys) k,
         at_magnitudes ys (suc k),
-        sum_magnitude (o.product (o.magnitude x) (o.magnitude (coefficient_at o ys (suc k)))) (coefficient_at o (list_product o (magnitudes_of xs) (magnitudes_of ys)) k) (m.of_product x (coefficient_at o ys (suc k))) (times_magnitude xs ys k),
+        sum_magnitude (o.product (o.magnitude x) (o.magnitude (coefficient_at o ys (suc k))))
+            (coefficient_at o (list_product o (magnitudes_of xs) (magnitudes_of ys)) k) (m.of_product x (coefficient_at o ys (suc k)))
+            (times_magnitude xs ys k),
       )
 
-  pub times_covers : (zs xs ys : List A) → ((k : ℕ) → o.Covers (coefficient_at o xs k) (coefficient_at o ys k)) → (k : ℕ) → o.Covers (coefficient_at o (list_product o xs (magnitudes_of zs)) k) (coefficient_at o (list_product o ys (magnitudes_of zs)) k)
+  pub times_covers : (zs xs ys : List A) → ((k : ℕ) → o.Covers (coefficient_at o xs k) (coefficient_at o ys k)) → (k : ℕ)
+      → o.Covers (coefficient_at o (list_product o xs (magnitudes_of zs)) k) (coefficient_at o (list_product o ys (magnitudes_of zs)) k)
   times_covers [] xs ys h k = covers_by (times_none o l xs k) (times_none o l ys k) (m.covers_same o.nought)
-  times_covers (z ∷ zs) xs ys h zero = covers_by (times_cons_zero o l xs (o.magnitude z) (magnitudes_of zs)) (times_cons_zero o l ys (o.magnitude z) (magnitudes_of zs)) (m.covers_product (coefficient_at o xs 0) (coefficient_at o ys 0) z (h 0))
+  times_covers (z ∷ zs) xs ys h zero =
+      covers_by (times_cons_zero o l xs (o.magnitude z) (magnitudes_of zs)) (times_cons_zero o l ys (o.magnitude z) (magnitudes_of zs))
+      (m.covers_product (coefficient_at o xs 0) (coefficient_at o ys 0) z (h 0))
   times_covers (z ∷ zs) xs ys h (suc k) =
       covers_by (times_cons_suc o l xs (o.magnitude z) (magnitudes_of zs) k) (times_cons_suc o l ys (o.magnitude z) (magnitudes_of zs) k)
-      (covers_sums (o.product (coefficient_at o xs (suc k)) (o.magnitude z)) (o.product (coefficient_at o ys (suc k)) (o.magnitude z)) (coefficient_at o (list_product o xs (magnitudes_of zs)) k) (coefficient_at o (list_product o ys (magnitudes_of zs)) k)
+      (covers_sums (o.product (coefficient_at o xs (suc k)) (o.magnitude z)) (o.product (coefficient_at o ys (suc k)) (o.magnitude z))
+      (coefficient_at o (list_product o xs (magnitudes_of zs)) k) (coefficient_at o (list_product o ys (magnitudes_of zs)) k)
       (m.covers_product (coefficient_at o xs (suc k)) (coefficient_at o ys (suc k)) z (h (suc k))) (times_covers zs xs ys h k))
 
   -- the sizes of a sum's parts cover its size, and so do what cover these
@@ -62,32 +70,52 @@ module _ {A : Type 0} (o : Ops A) (l : RingLaws o) (m : MagnitudeLaws o) where
       m.covers_trans (o.sum u v) (o.sum (o.magnitude x) (o.magnitude y)) (o.magnitude (o.sum x y))
       (covers_sums u (o.magnitude x) v (o.magnitude y) h k) (m.sum_covers x y)
 
-  pub product_covered : (xs ys : List A) (k : ℕ) → o.Covers (coefficient_at o (list_product o (magnitudes_of xs) (magnitudes_of ys)) k) (o.magnitude (coefficient_at o (list_product o xs ys) k))
+  pub product_covered : (xs ys : List A) (k : ℕ)
+      → o.Covers (coefficient_at o (list_product o (magnitudes_of xs) (magnitudes_of ys)) k) (o.magnitude (coefficient_at o (list_product o xs ys) k))
   product_covered [] ys k = covers_by refl m.of_nought (m.covers_same o.nought)
   product_covered (x ∷ xs) ys zero =
-      covers_by (times_zero o l (o.magnitude x) (magnitudes_of xs) (magnitudes_of ys) ∙ ap (o.product (o.magnitude x)) (at_magnitudes ys 0)) (ap o.magnitude (times_zero o l x xs ys)) (m.product_covers x (coefficient_at o ys 0))
+      covers_by (times_zero o l (o.magnitude x) (magnitudes_of xs) (magnitudes_of ys) ∙ ap (o.product (o.magnitude x)) (at_magnitudes ys 0))
+      (ap o.magnitude (times_zero o l x xs ys)) (m.product_covers x (coefficient_at o ys 0))
   product_covered (x ∷ xs) ys (suc k) =
-      covers_by (times_suc o l (o.magnitude x) (magnitudes_of xs) (magnitudes_of ys) k ∙ ap (λ t. o.sum (o.product (o.magnitude x) t) (coefficient_at o (list_product o (magnitudes_of xs) (magnitudes_of ys)) k)) (at_magnitudes ys (suc k)))
+      covers_by (times_suc o l (o.magnitude x) (magnitudes_of xs) (magnitudes_of ys) k
+      ∙ ap (λ t. o.sum (o.product (o.magnitude x) t) (coefficient_at o (list_product o (magnitudes_of xs) (magnitudes_of ys)) k))
+      (at_magnitudes ys (suc k)))
       (ap o.magnitude (times_suc o l x xs ys k))
-      (sum_covered (o.product x (coefficient_at o ys (suc k))) (coefficient_at o (list_product o xs ys) k) (o.product (o.magnitude x) (o.magnitude (coefficient_at o ys (suc k)))) (coefficient_at o (list_product o (magnitudes_of xs) (magnitudes_of ys)) k)
+      (sum_covered (o.product x (coefficient_at o ys (suc k))) (coefficient_at o (list_product o xs ys) k)
+      (o.product (o.magnitude x) (o.magnitude (coefficient_at o ys (suc k))))
+      (coefficient_at o (list_product o (magnitudes_of xs) (magnitudes_of ys)) k)
       (m.product_covers x (coefficient_at o ys (suc k))) (product_covered xs ys k))
 
   -- the coefficient at i + j covers the product of those at i and at j
-  pub part_of_product : (xs ys : List A) (i j k : ℕ) → i + j ≡ k → o.Covers (coefficient_at o (list_product o (magnitudes_of xs) (magnitudes_of ys)) k) (o.product (o.magnitude (coefficient_at o xs i)) (o.magnitude (coefficient_at o ys j)))
-  part_of_product [] ys i j k e = covers_by refl (ap (λ t. o.product t (o.magnitude (coefficient_at o ys j))) m.of_nought ∙ nought_product o l (o.magnitude (coefficient_at o ys j))) (m.covers_same o.nought)
+  pub part_of_product : (xs ys : List A) (i j k : ℕ) → i + j ≡ k
+      → o.Covers (coefficient_at o (list_product o (magnitudes_of xs) (magnitudes_of ys)) k)
+      (o.product (o.magnitude (coefficient_at o xs i)) (o.magnitude (coefficient_at o ys j)))
+  part_of_product [] ys i j k e =
+      covers_by refl (ap (λ t. o.product t (o.magnitude (coefficient_at o ys j))) m.of_nought
+      ∙ nought_product o l (o.magnitude (coefficient_at o ys j))) (m.covers_same o.nought)
   part_of_product (x ∷ xs) ys zero j zero e =
       let h : j ≡ 0 = omega arith in
-      covers_by (times_zero o l (o.magnitude x) (magnitudes_of xs) (magnitudes_of ys) ∙ ap (o.product (o.magnitude x)) (at_magnitudes ys 0)) (ap (λ t. o.product (o.magnitude x) (o.magnitude (coefficient_at o ys t))) h) (m.covers_same (o.product (o.magnitude x) (o.magnitude (coefficient_at o ys 0))))
+      covers_by (times_zero o l (o.magnitude x) (magnitudes_of xs) (magnitudes_of ys) ∙ ap (o.product (o.magnitude x)) (at_magnitudes ys 0))
+      (ap (λ t. o.product (o.magnitude x) (o.magnitude (coefficient_at o ys t))) h)
+      (m.covers_same (o.product (o.magnitude x) (o.magnitude (coefficient_at o ys 0))))
   part_of_product (x ∷ xs) ys zero j (suc k) e =
       let h : j ≡ suc k = omega arith in
-      covers_by (times_suc o l (o.magnitude x) (magnitudes_of xs) (magnitudes_of ys) k ∙ ap (λ t. o.sum (o.product (o.magnitude x) t) (coefficient_at o (list_product o (magnitudes_of xs) (magnitudes_of ys)) k)) (at_magnitudes ys (suc k)))
+      covers_by (times_suc o l (o.magnitude x) (magnitudes_of xs) (magnitudes_of ys) k
+      ∙ ap (λ t. o.sum (o.product (o.magnitude x) t) (coefficient_at o (list_product o (magnitudes_of xs) (magnitudes_of ys)) k))
+      (at_magnitudes ys (suc k)))
       (ap (λ t. o.product (o.magnitude x) (o.magnitude (coefficient_at o ys t))) h)
-      (left_part (o.product (o.magnitude x) (o.magnitude (coefficient_at o ys (suc k)))) (coefficient_at o (list_product o (magnitudes_of xs) (magnitudes_of ys)) k) (times_magnitude xs ys k))
+      (left_part (o.product (o.magnitude x) (o.magnitude (coefficient_at o ys (suc k))))
+      (coefficient_at o (list_product o (magnitudes_of xs) (magnitudes_of ys)) k) (times_magnitude xs ys k))
   part_of_product (x ∷ xs) ys (suc i) j zero e = absurd (omega arith)
   part_of_product (x ∷ xs) ys (suc i) j (suc k) e =
-      m.covers_trans (coefficient_at o (list_product o (magnitudes_of (x ∷ xs)) (magnitudes_of ys)) (suc k)) (coefficient_at o (list_product o (magnitudes_of xs) (magnitudes_of ys)) k) (o.product (o.magnitude (coefficient_at o xs i)) (o.magnitude (coefficient_at o ys j)))
-      (covers_by (times_suc o l (o.magnitude x) (magnitudes_of xs) (magnitudes_of ys) k ∙ ap (λ t. o.sum (o.product (o.magnitude x) t) (coefficient_at o (list_product o (magnitudes_of xs) (magnitudes_of ys)) k)) (at_magnitudes ys (suc k))) refl
-      (right_part (o.product (o.magnitude x) (o.magnitude (coefficient_at o ys (suc k)))) (coefficient_at o (list_product o (magnitudes_of xs) (magnitudes_of ys)) k) (m.of_product x (coefficient_at o ys (suc k)))))
+      m.covers_trans (coefficient_at o (list_product o (magnitudes_of (x ∷ xs)) (magnitudes_of ys)) (suc k))
+      (coefficient_at o (list_product o (magnitudes_of xs) (magnitudes_of ys)) k)
+      (o.product (o.magnitude (coefficient_at o xs i)) (o.magnitude (coefficient_at o ys j)))
+      (covers_by (times_suc o l (o.magnitude x) (magnitudes_of xs) (magnitudes_of ys) k
+      ∙ ap (λ t. o.sum (o.product (o.magnitude x) t) (coefficient_at o (list_product o (magnitudes_of xs) (magnitudes_of ys)) k))
+      (at_magnitudes ys (suc k))) refl
+      (right_part (o.product (o.magnitude x) (o.magnitude (coefficient_at o ys (suc k))))
+      (coefficient_at o (list_product o (magnitudes_of xs) (magnitudes_of ys)) k) (m.of_product x (coefficient_at o ys (suc k)))))
       (part_of_product xs ys i j k (omega arith))
 
   decided : (x : A) (b : Bool) → o.is_nought x ≡ b → (x ≡ o.nought) ⊎ (¬ (x ≡ o.nought))

@@ -65,11 +65,13 @@ not_nought : {A : Type 0} (o : Ops A) (l : RingLaws o) (x : A) → IsTrue (not (
 not_nought o l x h e = cc (h, (l.is_nought x).1 e)
 
 -- the last coefficient
-pub last_not : {A : Type 0} (o : Ops A) (l : RingLaws o) (x : A) (xs : List A) → IsTrue (is_trimmed o (x ∷ xs)) → ¬ (coefficient_at o (x ∷ xs) (length xs) ≡ o.nought)
+pub last_not : {A : Type 0} (o : Ops A) (l : RingLaws o) (x : A) (xs : List A) → IsTrue (is_trimmed o (x ∷ xs))
+    → ¬ (coefficient_at o (x ∷ xs) (length xs) ≡ o.nought)
 last_not o l x [] h = not_nought o l x h
 last_not o l x (y ∷ ys) h = last_not o l y ys h
 
-pub length_within : {A : Type 0} (o : Ops A) (l : RingLaws o) (xs : List A) (n : ℕ) → IsTrue (is_trimmed o xs) → ((k : ℕ) → n ≤ k → coefficient_at o xs k ≡ o.nought) → length xs ≤ n
+pub length_within : {A : Type 0} (o : Ops A) (l : RingLaws o) (xs : List A) (n : ℕ) → IsTrue (is_trimmed o xs)
+    → ((k : ℕ) → n ≤ k → coefficient_at o xs k ≡ o.nought) → length xs ≤ n
 length_within o l [] n h e = omega arith
 length_within o l (x ∷ xs) n h e = go (last_not o l x xs h) (cases_lt (length xs) n)
   where

@@ -1,8 +1,8 @@
 -- What a call of a ring answers.
 use Rattle.std.specs.Prelude.{◌≡◌, Result, Ok, Err}
 use Rattle.ring_laws.specs.Meaning.{Meaning}
-use Rattle.ring_laws.specs.declared.RingFault.{RingFault}
-use Rattle.ring_laws.specs.declared.RingFault.TheVariants.{TooLarge, Memory}
+use Rattle.ring_laws.specs.declared.faults.RingFault.{RingFault}
+use Rattle.ring_laws.specs.declared.faults.RingFault.TheVariants.{TooLarge, Memory}
 
 -- what is said of an error: `TooLarge` comes only where P holds, and `Memory` freely
 abbrev pub OnFault : Type 0 → RingFault → Type 0

@@ -22,7 +22,17 @@ distributes_whole : (a b c : ℤ) → a *ℤ (b +ℤ c) ≡ a *ℤ b +ℤ a *ℤ
 distributes_whole a b c =
     let k = crossed (up a) (down a) (up (b +ℤ c)) (down (b +ℤ c)) (down b + down c) (up b + up c) (omega (arith, sum_is_lem b c)) in
     same_in (a *ℤ (b +ℤ c)) (a *ℤ b +ℤ a *ℤ c)
-    (omega (arith, k, sum_is_lem (a *ℤ b) (a *ℤ c), up_product a b, down_product a b, up_product a c, down_product a c, up_product a (b +ℤ c), down_product a (b +ℤ c)))
+    (omega (
+      arith,
+      k,
+      sum_is_lem (a *ℤ b) (a *ℤ c),
+      up_product a b,
+      down_product a b,
+      up_product a c,
+      down_product a c,
+      up_product a (b +ℤ c),
+      down_product a (b +ℤ c),
+    ))
 
 assoc_whole : (a b c : ℤ) → a *ℤ b *ℤ c ≡ a *ℤ (b *ℤ c)
 assoc_whole a b c = same_in (a *ℤ b *ℤ c) (a *ℤ (b *ℤ c)) (simp (up_product, down_product) (omega arith))
@@ -86,7 +96,10 @@ whole_ring = record {
   whole_one = refl;
   whole_sum = λ v w. refl;
   whole_product = λ v w. refl;
-  is_nought = λ x. ((λ h. from_number x (pos 0) ((is_zero_whole (number_of x.0)).0 h)), (λ e. (is_zero_whole (number_of x.0)).1 (ap (λ (t : Passing whole_algebra). number_of t.0) e)));
+  is_nought = λ x. (
+    (λ h. from_number x (pos 0) ((is_zero_whole (number_of x.0)).0 h)),
+    (λ e. (is_zero_whole (number_of x.0)).1 (ap (λ (t : Passing whole_algebra). number_of t.0) e)),
+  );
 }
 
 abs_zero : (z : ℤ) → pos (unsigned_abs z) ≡ pos 0 → z ≡ pos 0
@@ -119,13 +132,18 @@ whole_magnitudes = record {
   covers_trans = λ x y z p q. omega (arith, ints);
   covers_sum = λ x y z p. omega (arith, ints);
   covers_product = λ x y z p. le_product (number_of x.0) (number_of y.0) (unsigned_abs (number_of z.0)) p;
-  sum_covers = λ x y. le_nat (unsigned_abs (number_of x.0 +ℤ number_of y.0)) (unsigned_abs (number_of x.0) + unsigned_abs (number_of y.0)) (abs_sum (number_of x.0) (number_of y.0));
-  product_covers = λ x y. le_nat (unsigned_abs (number_of x.0 *ℤ number_of y.0)) (unsigned_abs (number_of x.0) * unsigned_abs (number_of y.0)) (omega (arith, abs_product (number_of x.0) (number_of y.0)));
+  sum_covers = λ x y. le_nat (unsigned_abs (number_of x.0 +ℤ number_of y.0)) (unsigned_abs (number_of x.0) + unsigned_abs (number_of y.0))
+      (abs_sum (number_of x.0) (number_of y.0));
+  product_covers = λ x y. le_nat (unsigned_abs (number_of x.0 *ℤ number_of y.0)) (unsigned_abs (number_of x.0) * unsigned_abs (number_of y.0))
+      (omega (arith, abs_product (number_of x.0) (number_of y.0)));
   part_covered = λ x y. omega (arith, ints);
   fits_covered = λ x y h p. omega (arith, ints, abs_is (number_of x.0));
   nought_covers = λ x p. ap (λ n. at (pos n)) (omega (arith, ints));
-  factors = λ x y e. ⊎_elim (λ h. inl (ap (λ n. at (pos n)) h)) (λ h. inr (ap (λ n. at (pos n)) h)) (zero_factor (unsigned_abs (number_of x.0)) (unsigned_abs (number_of y.0)) (omega (arith, ints, number_at (pos (unsigned_abs (number_of x.0) * unsigned_abs (number_of y.0))) (at (pos 0)) e)));
-  fits_factor = λ x y h ne. below_factor (unsigned_abs (number_of x.0)) (unsigned_abs (number_of y.0)) (2 ^ 127) h (λ e. ne (from_number y (pos 0) (abs_zero (number_of y.0) (ap pos e))));
+  factors = λ x y e. ⊎_elim (λ h. inl (ap (λ n. at (pos n)) h)) (λ h. inr (ap (λ n. at (pos n)) h))
+      (zero_factor (unsigned_abs (number_of x.0)) (unsigned_abs (number_of y.0))
+      (omega (arith, ints, number_at (pos (unsigned_abs (number_of x.0) * unsigned_abs (number_of y.0))) (at (pos 0)) e)));
+  fits_factor = λ x y h ne. below_factor (unsigned_abs (number_of x.0)) (unsigned_abs (number_of y.0)) (2 ^ 127) h
+      (λ e. ne (from_number y (pos 0) (abs_zero (number_of y.0) (ap pos e))));
 }
 
 pub whole_laws : Laws whole_algebra

@@ -1,0 +1,5 @@
+pub mod PolynomialText
+pub mod LiftedPolynomials
+pub mod PolynomialClaims
+pub mod WrittenNumbers
+pub mod Assembled

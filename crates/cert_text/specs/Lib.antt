@@ -1,0 +1,2 @@
+pub mod PolynomialDocument
+pub mod Printing

@@ -1,0 +1,4 @@
+pub mod ListLemmas
+pub mod AnswerLemmas
+pub mod PolyLemmas
+pub mod Accessors

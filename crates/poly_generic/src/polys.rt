@@ -1,0 +1,163 @@
+//! Polynomials over a ring.
+
+ghost use Rattle.std.specs.Prelude.{◌≡◌, ◌≢◌, ◌≤◌, ◌<◌, ◌+◌, ◌-◌, IsTrue, map, [], ◌∷◌, length, IfSome, MatchOption};
+ghost use Rattle.ring_laws.specs.Meaning.{Meaning, listed, items};
+ghost use Rattle.ring_laws.specs.Answer.{Gives, GivesInBounds};
+ghost use Rattle.poly_laws.specs.Lists.{coefficient_at, trimmed, is_trimmed};
+ghost use Rattle.poly_laws.specs.PolyAlgebra.{poly_algebra};
+ghost use Rattle.poly_laws.proofs.PolyMagnitudes.{poly_laws};
+ghost use Rattle.poly_laws.proofs.Belonging.{value_passes, value_fits};
+
+use crate::lists::{copies, magnitudes, negatives, product_of_lists, same_lists, sums, trim};
+use ring_laws::{Ring, RingFault, Whole};
+use std::alloc::Global;
+
+/// A polynomial over a ring: its coefficients from power 0 up, the last one not zero, at most 256 of them.
+///
+/// It means the list of the meanings of its coefficients.
+#[derive(Drop)]
+pub struct Poly<R: Ring> {
+    list: Vec<R>,
+    ghost ended: { IsTrue (is_trimmed R.algebra.ops (map R.meaning list.items)) },
+    ghost short: { length list.items ≤ 256 },
+}
+
+/// A polynomial in n.
+pub type Zn = Poly<Whole>;
+
+/// A polynomial in k whose coefficients are polynomials in n.
+pub type Znk = Poly<Zn>;
+
+impl<R: Ring> Poly<R> {
+    /// The polynomial of these coefficients, from power 0 up, without the zeros at the end.
+    ///
+    /// `TooLarge` comes exactly where more than 256 are left.
+    pub fn from_coefficients(list: Vec<R>) -> Result<Poly<R>, RingFault>
+        ensures gives { GivesInBounds ⟦<Poly<R> as Ring>⟧.meaning (length (trimmed R.algebra.ops (map R.meaning list.items)) ≤ 256)
+            (listed (trimmed R.algebra.ops (map R.meaning list.items))) result }
+    {
+        let list = trim(list);
+        if list.len() > 256 {
+            return Err(RingFault::TooLarge);
+        }
+        Ok(Poly { list })
+    }
+
+    /// The degree, `None` exactly for zero.
+    pub fn degree(&self) -> Option<u32>
+        ensures degree { MatchOption result (items (⟦<Poly<R> as Ring>⟧.meaning self.now) ≡ [])
+            (λ degree. length (items (⟦<Poly<R> as Ring>⟧.meaning self.now)) ≡ degree + 1) }
+        ensures small { IfSome result (λ degree. degree < 256) }
+    {
+        if self.list.is_empty() {
+            return None;
+        }
+        Some((self.list.len() - 1) as u32)
+    }
+
+    /// The coefficient of the greatest power, `None` exactly for zero.
+    pub fn lead(&self) -> Option<&R>
+        ensures lead { MatchOption result (items (⟦<Poly<R> as Ring>⟧.meaning self.now) ≡ [])
+            (λ lead. (items (⟦<Poly<R> as Ring>⟧.meaning self.now) ≢ []) × (R.meaning lead.now ≡
+            coefficient_at R.algebra.ops (items (⟦<Poly<R> as Ring>⟧.meaning self.now)) (length (items (⟦<Poly<R> as Ring>⟧.meaning self.now)) - 1))) }
+    {
+        self.list.last()
+    }
+
+    /// The coefficient of a power, `None` exactly past the list.
+    pub fn coefficient(&self, power: u32) -> Option<&R>
+        ensures coefficient { MatchOption result (length (items (⟦<Poly<R> as Ring>⟧.meaning self.now)) ≤ power)
+            (λ item. (power < length (items (⟦<Poly<R> as Ring>⟧.meaning self.now))) × (R.meaning item.now ≡
+            coefficient_at R.algebra.ops (items (⟦<Poly<R> as Ring>⟧.meaning self.now)) power)) }
+    {
+        self.list.get(power as usize)
+    }
+
+    /// The coefficients, from power 0 up.
+    pub fn coefficients(&self) -> &[R]
+        ensures coefficients { listed (map R.meaning result.now) ≡ ⟦<Poly<R> as Ring>⟧.meaning self.now }
+        ensures short { length result.now ≤ 256 }
+    {
+        &self.list
+    }
+}
+
+// The polynomial of one coefficient.
+fn constant<R: Ring>(alloc: Global, item: R) -> Result<Poly<R>, RingFault>
+    ensures { Gives ⟦<Poly<R> as Ring>⟧.meaning (listed (trimmed R.algebra.ops (R.meaning item ∷ []))) result }
+{
+    let mut list = Vec::new(alloc);
+    list.push(item)?;
+    Poly::from_coefficients(list)
+}
+
+impl<R: Ring> Ring for Poly<R> {
+    ghost meaning = { λ poly. listed (map R.meaning poly.list.items) };
+
+    ghost algebra = { poly_algebra R.algebra };
+
+    ghost laws = { poly_laws R.algebra R.laws };
+
+    ghost passes = { λ poly. value_passes R.algebra R.meaning R.passes poly.list.items poly.ended };
+
+    ghost fits = { λ poly. value_fits R.algebra R.laws R.meaning R.fits poly.list.items poly.short };
+
+    fn zero(alloc: Global) -> Result<Poly<R>, RingFault> {
+        Ok(Poly {
+            list: Vec::new(alloc),
+        })
+    }
+
+    fn one(alloc: Global) -> Result<Poly<R>, RingFault> {
+        let item = R::one(alloc)?;
+        constant(alloc, item)
+    }
+
+    fn whole(alloc: Global, value: Whole) -> Result<Poly<R>, RingFault> {
+        let item = R::whole(alloc, value)?;
+        constant(alloc, item)
+    }
+
+    fn duplicate(&self, alloc: Global) -> Result<Poly<R>, RingFault> {
+        let list = copies(alloc, &self.list)?;
+        Poly::from_coefficients(list)
+    }
+
+    fn neg(&self, alloc: Global) -> Result<Poly<R>, RingFault> {
+        let list = negatives(alloc, &self.list)?;
+        Poly::from_coefficients(list)
+    }
+
+    fn magnitude(&self, alloc: Global) -> Result<Poly<R>, RingFault> {
+        let list = magnitudes(alloc, &self.list)?;
+        Poly::from_coefficients(list)
+    }
+
+    fn add(&self, alloc: Global, other: &Poly<R>) -> Result<Poly<R>, RingFault> {
+        let list = sums(alloc, &self.list, &other.list)?;
+        Poly::from_coefficients(list)
+    }
+
+    fn sub(&self, alloc: Global, other: &Poly<R>) -> Result<Poly<R>, RingFault> {
+        let other = other.neg(alloc)?;
+        self.add(alloc, &other)
+    }
+
+    fn mul(&self, alloc: Global, other: &Poly<R>) -> Result<Poly<R>, RingFault> {
+        // The product of the magnitudes covers each step of the product, and doesn't fit exactly where the product is out of bounds.
+        let left = magnitudes(alloc, &self.list)?;
+        let right = magnitudes(alloc, &other.list)?;
+        let bound = product_of_lists(alloc, &left, &right)?;
+        let _bound = Poly::from_coefficients(bound)?;
+        let list = product_of_lists(alloc, &self.list, &other.list)?;
+        Poly::from_coefficients(list)
+    }
+
+    fn is_zero(&self) -> bool {
+        self.list.is_empty()
+    }
+
+    fn same(&self, other: &Poly<R>) -> bool {
+        same_lists(&self.list, &other.list)
+    }
+}
