@@ -1,0 +1,111 @@
+-- The text of a number, of a fraction and of a power determines it.
+use Rattle.std.specs.Prelude.{◌≡◌, ◌≢◌, ℕ, suc, ◌+◌, ◌%◌, ◌^◌, ◌<◌, Bool, true, false, if◌then◌else◌, nat_eq, ℤ, pos, negsuc, ◌<ℤ◌, unsigned_abs, ◌⊎◌, codes, List, [], ◌∷◌, length, drop}
+use Rattle.std.specs.List.{list_all}
+use Rattle.std.specs.Fmt.{decimal, signed_decimal}
+use Rattle.std.specs.Str.{byte}
+use Rattle.std.specs.Str.Parse.{digits_value}
+use Rattle.std.proofs.Common.{refl, ap, sym, subst, ◌∙◌, inl, inr, ⊎_elim, arith}
+use Rattle.std.proofs.lemmas.Bool.{eqb-true, agree_below_at, false≢true}
+use Rattle.std.proofs.lemmas.Int.{ints}
+use Rattle.std.proofs.lemmas.Fmt.{decimal_is_IsNumeral_wide, decimal_by_steps_wide}
+use Rattle.hypergeometric.specs.Fraction.{Fraction}
+use Rattle.document_text.specs.Spelling.{◌⧺◌, fraction_text}
+use Rattle.document_text.specs.TermText.{times_text}
+use Rattle.document_text.specs.WellFormed.{IsNumber, IsLowest}
+use Rattle.document_text.proofs.Cutting.{among, Only, Stops, only_append, only_more, cut}
+
+abbrev pub digit_bytes : List ℕ
+digit_bytes = codes "0123456789"
+
+-- a digit is among the digits
+only_digit : (d : ℕ) → d < 10 → Only (among digit_bytes) ((48 + d) ∷ [])
+only_digit d h = agree_below_at (λ e. list_all (among digit_bytes) ((48 + e) ∷ [])) (λ e. true) 10 d refl h
+
+pub only_decimal : (n : ℕ) → n < 2 ^ 127 → Only (among digit_bytes) (decimal n)
+only_decimal n h = decimal_by_steps_wide (λ m ds. Only (among digit_bytes) ds) only_digit
+    (λ m ds l p. only_append (among digit_bytes) ds ((48 + m % 10) ∷ []) p (only_digit (m % 10) (omega arith))) n (omega arith)
+
+pub decimal_not_empty : (n : ℕ) → n < 2 ^ 127 → decimal n ≢ []
+decimal_not_empty n h e = omega (arith, (decimal_is_IsNumeral_wide n (omega arith)).0.0, ap length e)
+
+pub decimal_determines : (m n : ℕ) → m < 2 ^ 127 → n < 2 ^ 127 → decimal m ≡ decimal n → m ≡ n
+decimal_determines m n p q e =
+    sym (decimal_is_IsNumeral_wide m (omega arith)).1 ∙ ap (digits_value 10) e ∙ (decimal_is_IsNumeral_wide n (omega arith)).1
+
+-- no decimal begins with a minus
+decimal_no_minus : (n : ℕ) (xs : List ℕ) → n < 2 ^ 127 → decimal n ≢ 45 ∷ xs
+decimal_no_minus n xs h e = false≢true (subst (Only (among digit_bytes)) e (only_decimal n h))
+
+abbrev pub signed_bytes : List ℕ
+signed_bytes = codes "0123456789-"
+
+pub only_signed_decimal : (z : ℤ) → IsNumber z → Only (among signed_bytes) (signed_decimal z)
+only_signed_decimal (pos n) h = only_more digit_bytes (among signed_bytes) (decimal n) refl (only_decimal n h)
+only_signed_decimal (negsuc n) h = only_more digit_bytes (among signed_bytes) (decimal (suc n)) refl (only_decimal (suc n) h)
+
+pub signed_decimal_determines : (y z : ℤ) → IsNumber y → IsNumber z → signed_decimal y ≡ signed_decimal z → y ≡ z
+signed_decimal_determines (pos m) (pos n) p q e = ap pos (decimal_determines m n p q e)
+signed_decimal_determines (pos m) (negsuc n) p q e = absurd (decimal_no_minus m _ p e)
+signed_decimal_determines (negsuc m) (pos n) p q e = absurd (decimal_no_minus n _ q (sym e))
+signed_decimal_determines (negsuc m) (negsuc n) p q e =
+    let rest : decimal (suc m) ≡ decimal (suc n) = ap (drop 1) e in
+    let same = decimal_determines (suc m) (suc n) p q rest in
+    ap negsuc (omega arith)
+
+-- what is left out in one text and in the other, or is equal in both
+abbrev pub left_out : Bool → List ℕ → List ℕ
+left_out b xs = if b then [] else xs
+
+pub left_out_stops : (class : ℕ → Bool) (b : Bool) (c : ℕ) (xs : List ℕ) → class c ≡ false → Stops class (left_out b (c ∷ xs))
+left_out_stops class true c xs h = tt
+left_out_stops class false c xs h = h
+
+pub left_out_only : (class : ℕ → Bool) (b : Bool) (xs : List ℕ) → Only class xs → Only class (left_out b xs)
+left_out_only class true xs h = refl
+left_out_only class false xs h = h
+
+pub left_out_same : (b d : Bool) (c : ℕ) (xs ys : List ℕ) → left_out b (c ∷ xs) ≡ left_out d (c ∷ ys) → ((b ≡ true) × (d ≡ true)) ⊎ (xs ≡ ys)
+left_out_same true true c xs ys e = inl (refl, refl)
+left_out_same true false c xs ys e = absurd cc
+left_out_same false true c xs ys e = absurd cc
+left_out_same false false c xs ys e = inr cc
+
+-- a positive number of the magnitude 1 is 1
+positive_one : (z : ℤ) → pos 0 <ℤ z → nat_eq (unsigned_abs z) 1 ≡ true → z ≡ pos 1
+positive_one (pos n) h e = ap pos (eqb-true n 1 e)
+positive_one (negsuc n) h e = omega (arith, ints)
+
+abbrev pub fraction_bytes : List ℕ
+fraction_bytes = codes "0123456789-/"
+
+pub only_fraction : (f : Fraction) → IsLowest f → Only (among fraction_bytes) (fraction_text f)
+only_fraction f h =
+    let top = only_more signed_bytes (among fraction_bytes) (signed_decimal f.top) refl (only_signed_decimal f.top h.top) in
+    let bottom = only_more signed_bytes (among fraction_bytes) (signed_decimal f.bottom) refl (only_signed_decimal f.bottom h.bottom) in
+    only_append (among fraction_bytes) (signed_decimal f.top) _ top
+    (left_out_only (among fraction_bytes) (nat_eq (unsigned_abs f.bottom) 1) (byte "/" ∷ signed_decimal f.bottom) bottom)
+
+pub fraction_determines : (f g : Fraction) → IsLowest f → IsLowest g → fraction_text f ≡ fraction_text g → f ≡ g
+fraction_determines f g p q e =
+    let stops = λ (z : ℤ). left_out_stops (among signed_bytes) (nat_eq (unsigned_abs z) 1) (byte "/") (signed_decimal z) refl in
+    let parts = cut (among signed_bytes) (signed_decimal f.top) (signed_decimal g.top) _ _
+    (only_signed_decimal f.top p.top) (only_signed_decimal g.top q.top) (stops f.bottom) (stops g.bottom) e in
+    let top = signed_decimal_determines f.top g.top p.top q.top parts.0 in
+    let bottom : f.bottom ≡ g.bottom = ⊎_elim
+    (λ ones. positive_one f.bottom p.positive ones.0 ∙ sym (positive_one g.bottom q.positive ones.1))
+    (λ same. signed_decimal_determines f.bottom g.bottom p.bottom q.bottom same)
+    (left_out_same _ _ (byte "/") (signed_decimal f.bottom) (signed_decimal g.bottom) parts.1) in
+    λ i. record { top = top i; bottom = bottom i }
+
+abbrev pub times_bytes : List ℕ
+times_bytes = codes "0123456789 x"
+
+pub only_times : (n : ℕ) → n < 2 ^ 127 → Only (among times_bytes) (times_text n)
+only_times n h = left_out_only (among times_bytes) (nat_eq n 1) (codes " x" ⧺ decimal n)
+    (only_more digit_bytes (among times_bytes) (decimal n) refl (only_decimal n h))
+
+pub times_determines : (m n : ℕ) → m < 2 ^ 127 → n < 2 ^ 127 → times_text m ≡ times_text n → m ≡ n
+times_determines m n p q e = ⊎_elim
+    (λ ones. eqb-true m 1 ones.0 ∙ sym (eqb-true n 1 ones.1))
+    (λ same. decimal_determines m n p q (ap (drop 1) same))
+    (left_out_same (nat_eq m 1) (nat_eq n 1) (byte " ") (byte "x" ∷ decimal m) (byte "x" ∷ decimal n) e)

@@ -1,0 +1,2 @@
+pub mod Composition
+mod KnownTransfers
