@@ -12,11 +12,13 @@ use Rattle.document_text.specs.WellFormed.{IsPolynomial, IsMatch, IsRange}
 use Rattle.document_text.proofs.Cutting.{among, Only, only_append, only_more}
 use Rattle.document_text.proofs.MonomialBytes.{polynomial_bytes}
 use Rattle.document_text.proofs.Polynomials.{only_polynomial_in_n, polynomial_in_n_determines}
-use Rattle.document_text.proofs.Forms.{item_bytes, only_form, form_determines, form_before, form_before_no_minus, only_match, match_determines, match_no_minus}
+use Rattle.document_text.proofs.Forms.{only_form, form_determines, form_before, form_before_no_minus}
+use Rattle.document_text.proofs.Forms.{item_bytes, only_match, match_determines, match_no_minus}
 use Rattle.document_text.proofs.Spells.{Spells, spells_more}
 use Rattle.document_text.proofs.Items.{items_determine, only_items, joined_items_determine, only_joined_items}
 use Rattle.document_text.proofs.Factors.{field_bytes, list_bytes}
 
+-- a match, and a list of matches
 match_spells : Spells (among item_bytes) IsMatch match_text
 match_spells = record { only = only_match; determines = match_determines }
 
@@ -25,8 +27,8 @@ matches_text ms = items_text (map match_text ms)
 
 pub matches_spell : Spells (among field_bytes) (AllByRecursion IsMatch) matches_text
 matches_spell = record {
-  only = λ xs p. only_items (among field_bytes) IsMatch match_text (spells_more item_bytes (among field_bytes) IsMatch match_text refl match_spells) xs refl refl p;
-  determines = items_determine (among item_bytes) IsMatch match_text match_spells refl refl match_no_minus;
+  only = λ xs p. only_items (spells_more item_bytes (among field_bytes) refl match_spells) xs refl refl p;
+  determines = items_determine match_spells refl refl match_no_minus;
 }
 
 -- at least one polynomial in n
@@ -42,12 +44,11 @@ multiplier_spells = record { only = only_polynomial_in_n; determines = polynomia
 
 pub multipliers_spell : Spells (among list_bytes) AreMultipliers multipliers_text
 multipliers_spell = record {
-  only = λ xs p. only_joined_items (among list_bytes) (IsPolynomial 1) polynomial_in_n_text
-      (spells_more polynomial_bytes (among list_bytes) (IsPolynomial 1) polynomial_in_n_text refl multiplier_spells) (codes "; ") xs refl p.each;
-  determines = λ xs ys p q e. joined_items_determine (among polynomial_bytes) (IsPolynomial 1) polynomial_in_n_text multiplier_spells
-      (byte ";") (codes " ") refl xs ys p.some q.some p.each q.each e;
+  only = λ xs p. only_joined_items (spells_more polynomial_bytes (among list_bytes) refl multiplier_spells) (codes "; ") xs refl p.each;
+  determines = λ xs ys p q e. joined_items_determine multiplier_spells (byte ";") (codes " ") refl xs ys p.some q.some p.each q.each e;
 }
 
+-- a range, or none
 range_determines : (x y : Option (LinearForm × LinearForm)) → IsRange x → IsRange y → range_text x ≡ range_text y → x ≡ y
 range_determines None None p q e = refl
 range_determines None (Some b) p q e = absurd (form_before_no_minus b.0 (codes " to " ⧺ form_text b.1) q.0 refl (sym e))

@@ -23,6 +23,7 @@ abbrev pub Stops : (ℕ → Bool) → List ℕ → Type 0
 Stops class [] = Unit {0}
 Stops class (b ∷ rest) = class b ≡ false
 
+-- two texts of the class are one text of it
 pub only_append : (class : ℕ → Bool) (xs ys : List ℕ) → Only class xs → Only class ys → Only class (xs ++ ys)
 only_append class [] ys p q = q
 only_append class (x ∷ xs) ys p q =
@@ -34,9 +35,10 @@ in_class : (bytes : List ℕ) (class : ℕ → Bool) (b : ℕ) → Only class by
 in_class [] class b all here = cc
 in_class (x ∷ bytes) class b all here =
     let parts = and_parts (class x) (list_all class bytes) all in
-    ⊎_elim (λ e. ap class (eqb-true b x e) ∙ parts.0) (λ later. in_class bytes class b parts.1 later) (or_cases (nat_eq b x) (among bytes b) here)
+    ⊎_elim (λ e. ap class (eqb-true b x e) ∙ parts.0) (λ later. in_class bytes class b parts.1 later)
+    (or_cases (nat_eq b x) (among bytes b) here)
 
--- a text of listed bytes, all of them in the class, is of bytes of the class
+-- A text of listed bytes is of a class that has them all. At known bytes `refl` shows that it has.
 pub only_more : (bytes : List ℕ) (class : ℕ → Bool) (xs : List ℕ) → Only class bytes → Only (among bytes) xs → Only class xs
 only_more bytes class [] all here = refl
 only_more bytes class (x ∷ xs) all here =
@@ -62,7 +64,7 @@ cut class (x ∷ xs) (y ∷ ys) r s p q u v e =
     let rest = parts.0 in
     (cc, parts.1)
 
--- the same behind a word
+-- The same behind a word.
 pub cut_behind : (word : List ℕ) (class : ℕ → Bool) (xs ys r s : List ℕ) → Only class xs → Only class ys → Stops class r → Stops class s
     → word ++ (xs ++ r) ≡ word ++ (ys ++ s) → (xs ≡ ys) × (r ≡ s)
 cut_behind word class xs ys r s p q u v e = cut class xs ys r s p q u v (append_cancel_left word (xs ++ r) (ys ++ s) e)

@@ -13,6 +13,7 @@ use Rattle.document_text.proofs.Forms.{item_bytes, only_factor, factor_determine
 use Rattle.document_text.proofs.Spells.{Spells, spells_more, spelled_behind}
 use Rattle.document_text.proofs.Items.{items_determine, only_items}
 
+-- a factor, and a list of factors
 pub factor_spells : Spells (among item_bytes) IsFactor factor_text
 factor_spells = record { only = only_factor; determines = factor_determines }
 
@@ -22,8 +23,8 @@ field_bytes = codes "0123456789*^nk+-/ xby,"
 
 pub factors_spell : Spells (among field_bytes) (AllByRecursion IsFactor) factors_text
 factors_spell = record {
-  only = λ xs p. only_items (among field_bytes) IsFactor factor_text (spells_more item_bytes (among field_bytes) IsFactor factor_text refl factor_spells) xs refl refl p;
-  determines = items_determine (among item_bytes) IsFactor factor_text factor_spells refl refl factor_no_minus;
+  only = λ xs p. only_items (spells_more item_bytes (among field_bytes) refl factor_spells) xs refl refl p;
+  determines = items_determine factor_spells refl refl factor_no_minus;
 }
 
 signed_spells : Spells (among signed_bytes) IsNumber signed_decimal
@@ -33,6 +34,7 @@ signed_spells = record { only = only_signed_decimal; determines = signed_decimal
 abbrev pub list_bytes : List ℕ
 list_bytes = codes "0123456789*^nk+-/ xby,;"
 
+-- a scale with a list of factors
 only_factor_list : (l : FactorList) → IsFactorList l → Only (among list_bytes) (factor_list_text l)
 only_factor_list l p = only_append (among list_bytes) (signed_decimal l.scale) (codes "; " ⧺ factors_text l.factors)
     (only_more signed_bytes (among list_bytes) (signed_decimal l.scale) refl (only_signed_decimal l.scale p.scale))
@@ -40,7 +42,7 @@ only_factor_list l p = only_append (among list_bytes) (signed_decimal l.scale) (
 
 factor_list_determines : (l m : FactorList) → IsFactorList l → IsFactorList m → factor_list_text l ≡ factor_list_text m → l ≡ m
 factor_list_determines l m p q e =
-    let parts = spelled_behind (among signed_bytes) IsNumber signed_decimal signed_spells [] l.scale m.scale
+    let parts = spelled_behind signed_spells [] l.scale m.scale
     (codes "; " ⧺ factors_text l.factors) (codes "; " ⧺ factors_text m.factors) p.scale q.scale refl refl e in
     let scale = parts.0 in
     let factors = factors_spell.determines l.factors m.factors p.factors.each q.factors.each (ap (drop 2) parts.1) in

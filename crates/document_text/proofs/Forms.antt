@@ -10,7 +10,7 @@ use Rattle.document_text.specs.TermText.{form_text, times_text, factor_text}
 use Rattle.document_text.specs.Document.{Match, match_text}
 use Rattle.document_text.specs.WellFormed.{IsForm, IsFactor, IsMatch}
 use Rattle.document_text.proofs.Cutting.{among, Only, Stops, only_append, only_more, cut}
-use Rattle.document_text.proofs.Numerals.{digit_bytes, only_decimal, decimal_determines, times_bytes, only_times, times_determines, left_out_stops}
+use Rattle.document_text.proofs.Numerals.{digit_bytes, only_decimal, decimal_before, times_bytes, only_times, times_determines, left_out_stops}
 use Rattle.document_text.proofs.MonomialBytes.{polynomial_bytes, only_monomials, monomials_no_minus}
 use Rattle.document_text.proofs.Totals.{share, total_at, total_before}
 use Rattle.document_text.proofs.Polynomials.{AreMonomials, none, before, same_totals}
@@ -25,6 +25,7 @@ n_monomials f = monomial_before f.n_slope 1 0 (offset_monomials f)
 abbrev form_monomials : LinearForm → List Monomial
 form_monomials f = monomial_before f.k_slope 0 1 (n_monomials f)
 
+-- they are within bounds
 of_form : (f : LinearForm) → IsForm f → AreMonomials (form_monomials f)
 of_form f h =
     let offset = before f.offset 0 0 [] (omega (arith, h.offset)) (omega arith) (omega arith) none in
@@ -32,10 +33,15 @@ of_form f h =
     before f.k_slope 0 1 (n_monomials f) (omega (arith, h.k_slope)) (omega arith) (omega arith) n_slope
 
 -- the totals of a form's monomials are its slopes and its offset
-form_total : (f : LinearForm) (a b : ℕ) → total_at a b (form_monomials f) ≡ share 0 1 a b f.k_slope +ℤ share 1 0 a b f.n_slope +ℤ share 0 0 a b f.offset
+form_total : (f : LinearForm) (a b : ℕ)
+    → total_at a b (form_monomials f) ≡ share 0 1 a b f.k_slope +ℤ share 1 0 a b f.n_slope +ℤ share 0 0 a b f.offset
 form_total f a b =
-    omega (arith, ints, total_before a b f.k_slope 0 1 (n_monomials f), total_before a b f.n_slope 1 0 (offset_monomials f), total_before a b f.offset 0 0 [])
+    let by_k = total_before a b f.k_slope 0 1 (n_monomials f) in
+    let by_n = total_before a b f.n_slope 1 0 (offset_monomials f) in
+    let by_offset = total_before a b f.offset 0 0 [] in
+    omega (arith, ints)
 
+-- the text of a form determines it, has only bytes of polynomials, and is no single minus
 pub form_determines : (f g : LinearForm) → IsForm f → IsForm g → form_text f ≡ form_text g → f ≡ g
 unfolding form_text
 form_determines f g p q e =
@@ -53,21 +59,23 @@ pub form_no_minus : (f : LinearForm) → IsForm f → form_text f ≢ byte "-" �
 unfolding form_text
 form_no_minus f h = monomials_no_minus (form_monomials f) (of_form f h).small
 
--- a form is cut from what follows it at a space
+-- a form ends where what follows it begins with no byte of polynomials, as a space
 pub form_before : (f g : LinearForm) (r s : List ℕ) → IsForm f → IsForm g → Stops (among polynomial_bytes) r → Stops (among polynomial_bytes) s
     → form_text f ++ r ≡ form_text g ++ s → (f ≡ g) × (r ≡ s)
 form_before f g r s p q u v e =
     let parts = cut (among polynomial_bytes) (form_text f) (form_text g) r s (only_form f p) (only_form g q) u v e in
     (form_determines f g p q parts.0, parts.1)
 
--- what begins with a form and goes on with a space, or not at all, is no single minus
+-- nor is a form with such a text behind it a single minus
 pub form_before_no_minus : (f : LinearForm) (r : List ℕ) → IsForm f → Stops (among polynomial_bytes) r → form_text f ++ r ≢ byte "-" ∷ []
 form_before_no_minus f r p u e =
     form_no_minus f p (cut (among polynomial_bytes) (form_text f) (byte "-" ∷ []) r [] (only_form f p) refl u tt e).0
 
+-- a power begins with a space
 times_stops : (class : ℕ → Bool) (n : ℕ) → class (byte " ") ≡ false → Stops class (times_text n)
 times_stops class n h = left_out_stops class (nat_eq n 1) (byte " ") (byte "x" ∷ decimal n) h
 
+-- the text of a factor determines it, and is no single minus
 pub factor_determines : (x y : Factor) → IsFactor x → IsFactor y → factor_text x ≡ factor_text y → x ≡ y
 factor_determines x y p q e =
     let parts = form_before x.form y.form (times_text x.power) (times_text y.power) p.form q.form
@@ -88,23 +96,26 @@ only_factor x p = only_append (among item_bytes) (form_text x.form) (times_text 
     (only_more polynomial_bytes (among item_bytes) (form_text x.form) refl (only_form x.form p.form))
     (only_more times_bytes (among item_bytes) (times_text x.power) refl (only_times x.power (omega (arith, p.few))))
 
+-- what follows the form of a match
+abbrev by_shift : Match → List ℕ
+by_shift m = codes " by " ⧺ decimal m.shift ⧺ times_text m.power
+
+-- the text of a match determines it, and is no single minus
 pub match_determines : (x y : Match) → IsMatch x → IsMatch y → match_text x ≡ match_text y → x ≡ y
 match_determines x y p q e =
-    let parts = form_before x.form y.form (codes " by " ⧺ decimal x.shift ⧺ times_text x.power) (codes " by " ⧺ decimal y.shift ⧺ times_text y.power)
-    p.form q.form refl refl e in
-    let more = cut (among digit_bytes) (decimal x.shift) (decimal y.shift) (times_text x.power) (times_text y.power)
-    (only_decimal x.shift (omega (arith, p.shift))) (only_decimal y.shift (omega (arith, q.shift)))
+    let parts = form_before x.form y.form (by_shift x) (by_shift y) p.form q.form refl refl e in
+    let more = decimal_before x.shift y.shift (times_text x.power) (times_text y.power) (omega (arith, p.shift)) (omega (arith, q.shift))
     (times_stops (among digit_bytes) x.power refl) (times_stops (among digit_bytes) y.power refl) (ap (drop 4) parts.1) in
     let form = parts.0 in
-    let shift = decimal_determines x.shift y.shift (omega (arith, p.shift)) (omega (arith, q.shift)) more.0 in
+    let shift = more.0 in
     let power = times_determines x.power y.power (omega (arith, p.few)) (omega (arith, q.few)) more.1 in
     λ i. record { form = form i; shift = shift i; power = power i }
 
 pub match_no_minus : (x : Match) → IsMatch x → match_text x ≢ byte "-" ∷ []
-match_no_minus x p = form_before_no_minus x.form (codes " by " ⧺ decimal x.shift ⧺ times_text x.power) p.form refl
+match_no_minus x p = form_before_no_minus x.form (by_shift x) p.form refl
 
 pub only_match : (x : Match) → IsMatch x → Only (among item_bytes) (match_text x)
-only_match x p = only_append (among item_bytes) (form_text x.form) (codes " by " ⧺ decimal x.shift ⧺ times_text x.power)
+only_match x p = only_append (among item_bytes) (form_text x.form) (by_shift x)
     (only_more polynomial_bytes (among item_bytes) (form_text x.form) refl (only_form x.form p.form))
     (only_append (among item_bytes) (decimal x.shift) (times_text x.power)
     (only_more digit_bytes (among item_bytes) (decimal x.shift) refl (only_decimal x.shift (omega (arith, p.shift))))

@@ -11,19 +11,19 @@ use Rattle.document_text.specs.TermText.{form_text, factor_list_text, proper_ter
 use Rattle.document_text.specs.Document.{Document, match_text, document_text}
 
 -- a number as a coefficient
-abbrev c : ℤ → Meaning
+abbrev pub c : ℤ → Meaning
 c z = listed (number z ∷ [])
 
-abbrev nought : Meaning
+abbrev pub nought : Meaning
 nought = listed []
 
-abbrev plain : Meaning → ProperTerm
+abbrev pub plain : Meaning → ProperTerm
 plain p = record { poly = p; scale = of_whole (pos 1); n_base = of_whole (pos 1); k_base = of_whole (pos 1); up = []; down = []; over = []; guard = [] }
 
-abbrev unit_list : FactorList
+abbrev pub unit_list : FactorList
 unit_list = record { scale = pos 1; factors = [] }
 
-abbrev squares : Document
+abbrev pub squares : Document
 squares = record {
   term = plain (listed (nought ∷ nought ∷ c (pos 1) ∷ []));
   found = record {
@@ -62,6 +62,11 @@ known_polynomial : polynomial_text (listed (listed (number (negsuc 2) ∷ []) �
     ≡ codes "n*k^3+4*n^2*k-n*k+8*k-3"
 unfolding polynomial_text digits
 known_polynomial = refl
+
+-- a polynomial that isn't trimmed has the text of another one
+known_untrimmed : polynomial_text (listed (c (pos 1) ∷ nought ∷ [])) ≡ polynomial_text (listed (c (pos 1) ∷ []))
+unfolding polynomial_text digits
+known_untrimmed = refl
 
 known_in_n : polynomial_in_n_text (listed (number (negsuc 1) ∷ number (negsuc 3) ∷ [])) ≡ codes "-4*n-2"
 unfolding polynomial_in_n_text digits

@@ -13,5 +13,7 @@ pub mod Items
 pub mod Factors
 pub mod Terms
 pub mod ClaimParts
+pub mod Lines
 pub mod Documents
 mod KnownDocuments
+mod KnownWellFormed

@@ -1,5 +1,6 @@
 -- The text of a number, of a fraction and of a power determines it.
-use Rattle.std.specs.Prelude.{◌≡◌, ◌≢◌, ℕ, suc, ◌+◌, ◌%◌, ◌^◌, ◌<◌, Bool, true, false, if◌then◌else◌, nat_eq, ℤ, pos, negsuc, ◌<ℤ◌, unsigned_abs, ◌⊎◌, codes, List, [], ◌∷◌, length, drop}
+use Rattle.std.specs.Prelude.{◌≡◌, ◌≢◌, ℕ, suc, ◌+◌, ◌%◌, ◌^◌, ◌<◌, Bool, true, false, if◌then◌else◌, nat_eq, ◌⊎◌}
+use Rattle.std.specs.Prelude.{ℤ, pos, negsuc, ◌<ℤ◌, unsigned_abs, codes, List, [], ◌∷◌, ◌++◌, length, drop}
 use Rattle.std.specs.List.{list_all}
 use Rattle.std.specs.Fmt.{decimal, signed_decimal}
 use Rattle.std.specs.Str.{byte}
@@ -21,6 +22,7 @@ digit_bytes = codes "0123456789"
 only_digit : (d : ℕ) → d < 10 → Only (among digit_bytes) ((48 + d) ∷ [])
 only_digit d h = agree_below_at (λ e. list_all (among digit_bytes) ((48 + e) ∷ [])) (λ e. true) 10 d refl h
 
+-- a decimal has digits only, and at least one, and determines its number
 pub only_decimal : (n : ℕ) → n < 2 ^ 127 → Only (among digit_bytes) (decimal n)
 only_decimal n h = decimal_by_steps_wide (λ m ds. Only (among digit_bytes) ds) only_digit
     (λ m ds l p. only_append (among digit_bytes) ds ((48 + m % 10) ∷ []) p (only_digit (m % 10) (omega arith))) n (omega arith)
@@ -32,6 +34,17 @@ pub decimal_determines : (m n : ℕ) → m < 2 ^ 127 → n < 2 ^ 127 → decimal
 decimal_determines m n p q e =
     sym (decimal_is_IsNumeral_wide m (omega arith)).1 ∙ ap (digits_value 10) e ∙ (decimal_is_IsNumeral_wide n (omega arith)).1
 
+-- a decimal ends where what follows it begins with no digit
+pub decimal_before : (m n : ℕ) (r s : List ℕ) → m < 2 ^ 127 → n < 2 ^ 127 → Stops (among digit_bytes) r → Stops (among digit_bytes) s
+    → decimal m ++ r ≡ decimal n ++ s → (m ≡ n) × (r ≡ s)
+decimal_before m n r s p q u v e =
+    let parts = cut (among digit_bytes) (decimal m) (decimal n) r s (only_decimal m p) (only_decimal n q) u v e in
+    (decimal_determines m n p q parts.0, parts.1)
+
+-- what begins with a decimal doesn't begin with anything else than a digit
+pub decimal_starts : (n : ℕ) (r s : List ℕ) → n < 2 ^ 127 → Stops (among digit_bytes) r → Stops (among digit_bytes) s → decimal n ++ r ≢ s
+decimal_starts n r s h u v e = decimal_not_empty n h (cut (among digit_bytes) (decimal n) [] r s (only_decimal n h) refl u v e).0
+
 -- no decimal begins with a minus
 decimal_no_minus : (n : ℕ) (xs : List ℕ) → n < 2 ^ 127 → decimal n ≢ 45 ∷ xs
 decimal_no_minus n xs h e = false≢true (subst (Only (among digit_bytes)) e (only_decimal n h))
@@ -39,6 +52,7 @@ decimal_no_minus n xs h e = false≢true (subst (Only (among digit_bytes)) e (on
 abbrev pub signed_bytes : List ℕ
 signed_bytes = codes "0123456789-"
 
+-- a signed number has digits and a minus only, and its text determines it
 pub only_signed_decimal : (z : ℤ) → IsNumber z → Only (among signed_bytes) (signed_decimal z)
 only_signed_decimal (pos n) h = only_more digit_bytes (among signed_bytes) (decimal n) refl (only_decimal n h)
 only_signed_decimal (negsuc n) h = only_more digit_bytes (among signed_bytes) (decimal (suc n)) refl (only_decimal (suc n) h)
@@ -52,10 +66,11 @@ signed_decimal_determines (negsuc m) (negsuc n) p q e =
     let same = decimal_determines (suc m) (suc n) p q rest in
     ap negsuc (omega arith)
 
--- what is left out in one text and in the other, or is equal in both
+-- a text that is left out where a test holds
 abbrev pub left_out : Bool → List ℕ → List ℕ
 left_out b xs = if b then [] else xs
 
+-- What is left out or begins with a byte c begins with no byte of a class without c, and is of each class that has its bytes.
 pub left_out_stops : (class : ℕ → Bool) (b : Bool) (c : ℕ) (xs : List ℕ) → class c ≡ false → Stops class (left_out b (c ∷ xs))
 left_out_stops class true c xs h = tt
 left_out_stops class false c xs h = h
@@ -64,6 +79,7 @@ pub left_out_only : (class : ℕ → Bool) (b : Bool) (xs : List ℕ) → Only c
 left_out_only class true xs h = refl
 left_out_only class false xs h = h
 
+-- equal texts are both left out, or are equal where they stand
 pub left_out_same : (b d : Bool) (c : ℕ) (xs ys : List ℕ) → left_out b (c ∷ xs) ≡ left_out d (c ∷ ys) → ((b ≡ true) × (d ≡ true)) ⊎ (xs ≡ ys)
 left_out_same true true c xs ys e = inl (refl, refl)
 left_out_same true false c xs ys e = absurd cc
@@ -78,6 +94,7 @@ positive_one (negsuc n) h e = omega (arith, ints)
 abbrev pub fraction_bytes : List ℕ
 fraction_bytes = codes "0123456789-/"
 
+-- a fraction has the bytes of its two numbers and a slash only, and its text determines it
 pub only_fraction : (f : Fraction) → IsLowest f → Only (among fraction_bytes) (fraction_text f)
 only_fraction f h =
     let top = only_more signed_bytes (among fraction_bytes) (signed_decimal f.top) refl (only_signed_decimal f.top h.top) in
@@ -100,6 +117,7 @@ fraction_determines f g p q e =
 abbrev pub times_bytes : List ℕ
 times_bytes = codes "0123456789 x"
 
+-- a power of a factor, and its text determines it
 pub only_times : (n : ℕ) → n < 2 ^ 127 → Only (among times_bytes) (times_text n)
 only_times n h = left_out_only (among times_bytes) (nat_eq n 1) (codes " x" ⧺ decimal n)
     (only_more digit_bytes (among times_bytes) (decimal n) refl (only_decimal n h))

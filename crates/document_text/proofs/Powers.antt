@@ -40,6 +40,7 @@ k_part zero j = power_text (byte "k") j
 k_part (suc i) zero = []
 k_part (suc i) (suc j) = byte "*" ∷ power_text (byte "k") (suc j)
 
+-- the text of the powers is that of the power of n and what follows it
 starred_parts : (i j : ℕ) → powers_of i j ≡ power_text (byte "n") i ++ k_part i j
 starred_parts zero j = refl
 starred_parts (suc zero) zero = refl
@@ -52,6 +53,7 @@ starred_parts (suc (suc i)) (suc (suc j)) = refl
 abbrev n_bytes : List ℕ
 n_bytes = codes "n^0123456789"
 
+-- the power of n ends where what follows it begins
 k_part_stops : (i j : ℕ) → Stops (among n_bytes) (k_part i j)
 k_part_stops zero zero = tt
 k_part_stops zero (suc zero) = refl
@@ -79,6 +81,7 @@ powers_determine i j p q hi hj hp hq e =
 abbrev pub unsigned_bytes : List ℕ
 unsigned_bytes = codes "0123456789*^nk"
 
+-- the powers have digits, stars, carets and names only
 only_k_part : (i j : ℕ) → j < 2 ^ 127 → Only (among unsigned_bytes) (k_part i j)
 only_k_part zero j h = only_power (among unsigned_bytes) (byte "k") j h refl
 only_k_part (suc i) zero h = refl
@@ -86,7 +89,8 @@ only_k_part (suc i) (suc j) h = only_power (among unsigned_bytes) (byte "k") (su
 
 pub only_powers : (i j : ℕ) → i < 2 ^ 127 → j < 2 ^ 127 → Only (among unsigned_bytes) (powers_of i j)
 only_powers i j hi hj = subst (Only (among unsigned_bytes)) (sym (starred_parts i j))
-    (only_append (among unsigned_bytes) (power_text (byte "n") i) (k_part i j) (only_power (among unsigned_bytes) (byte "n") i hi refl) (only_k_part i j hj))
+    (only_append (among unsigned_bytes) (power_text (byte "n") i) (k_part i j)
+    (only_power (among unsigned_bytes) (byte "n") i hi refl) (only_k_part i j hj))
 
 -- powers begin with no digit
 pub powers_stop : (i j : ℕ) → Stops (among digit_bytes) (powers_of i j)

@@ -1,5 +1,6 @@
 -- What a list of monomials adds up to at given powers, and that the monomials of a polynomial add up to its coefficients.
-use Rattle.std.specs.Prelude.{◌≡◌, ◌≢◌, ℕ, zero, suc, ◌+◌, ◌<◌, Bool, true, false, if◌then◌else◌, nat_eq, ◌&&◌, ℤ, pos, negsuc, ◌+ℤ◌, List, [], ◌∷◌, get_or}
+use Rattle.std.specs.Prelude.{◌≡◌, ◌≢◌, ℕ, zero, suc, ◌+◌, ◌<◌, Bool, true, false, if◌then◌else◌, nat_eq, ◌&&◌}
+use Rattle.std.specs.Prelude.{ℤ, pos, negsuc, ◌+ℤ◌, List, [], ◌∷◌, get_or}
 use Rattle.std.proofs.Common.{refl, ap, arith}
 use Rattle.std.proofs.lemmas.Bool.{and_from, and_left, and_right, eq-eqb, ne_eqb}
 use Rattle.std.proofs.lemmas.Int.{ints}
@@ -16,11 +17,14 @@ abbrev pub total_at : ℕ → ℕ → List Monomial → ℤ
 total_at a b [] = pos 0
 total_at a b (m ∷ ms) = share m.n_power m.k_power a b m.coefficient +ℤ total_at a b ms
 
+-- a share of 0 is 0
 no_share : (t : Bool) → (if t then pos 0 else pos 0) ≡ pos 0
 no_share true = refl
 no_share false = refl
 
-pub total_before : (a b : ℕ) (c : ℤ) (i j : ℕ) (rest : List Monomial) → total_at a b (monomial_before c i j rest) ≡ share i j a b c +ℤ total_at a b rest
+-- a monomial in front adds its share, also where it is left out
+pub total_before : (a b : ℕ) (c : ℤ) (i j : ℕ) (rest : List Monomial)
+    → total_at a b (monomial_before c i j rest) ≡ share i j a b c +ℤ total_at a b rest
 total_before a b (pos zero) i j rest = omega (arith, ints, no_share (nat_eq i a && nat_eq j b))
 total_before a b (pos (suc n)) i j rest = refl
 total_before a b (negsuc n) i j rest = refl
@@ -30,20 +34,26 @@ abbrev row_total : ℕ → ℕ → List Meaning → ℕ → ℕ → ℤ
 row_total a b [] i j = pos 0
 row_total a b (c ∷ cs) i j = share i j a b (number_of c) +ℤ row_total a b cs (suc i) j
 
-total_in_n : (a b : ℕ) (cs : List Meaning) (i j : ℕ) (rest : List Monomial) → total_at a b (monomials_in_n cs i j rest) ≡ row_total a b cs i j +ℤ total_at a b rest
+-- the monomials of coefficients at one power of k add their total
+total_in_n : (a b : ℕ) (cs : List Meaning) (i j : ℕ) (rest : List Monomial)
+    → total_at a b (monomials_in_n cs i j rest) ≡ row_total a b cs i j +ℤ total_at a b rest
 total_in_n a b [] i j rest = omega (arith, ints)
 total_in_n a b (c ∷ cs) i j rest =
     omega (arith, ints, total_in_n a b cs (suc i) j (monomial_before (number_of c) i j rest), total_before a b (number_of c) i j rest)
 
+-- what the coefficients from k^j on add up to at n^a * k^b
 abbrev table_total : ℕ → ℕ → List Meaning → ℕ → ℤ
 table_total a b [] j = pos 0
 table_total a b (p ∷ ps) j = row_total a b (items p) 0 j +ℤ table_total a b ps (suc j)
 
-total_in_k : (a b : ℕ) (ps : List Meaning) (j : ℕ) (rest : List Monomial) → total_at a b (monomials_in_k ps j rest) ≡ table_total a b ps j +ℤ total_at a b rest
+-- the monomials of a polynomial add their total
+total_in_k : (a b : ℕ) (ps : List Meaning) (j : ℕ) (rest : List Monomial)
+    → total_at a b (monomials_in_k ps j rest) ≡ table_total a b ps j +ℤ total_at a b rest
 total_in_k a b [] j rest = omega (arith, ints)
 total_in_k a b (p ∷ ps) j rest =
     omega (arith, ints, total_in_k a b ps (suc j) (monomials_in_n (items p) 0 j rest), total_in_n a b (items p) 0 j rest)
 
+-- the share is the number at its own powers, and 0 at other powers of n or of k
 share_here : (i j a b : ℕ) (c : ℤ) → i ≡ a → j ≡ b → share i j a b c ≡ c
 share_here i j a b c p q = ap (λ t. if t then c else pos 0) (and_from (nat_eq i a) (nat_eq j b) (eq-eqb i a p) (eq-eqb j b q))
 
@@ -53,6 +63,7 @@ share_other_n i j a b c p = ap (λ t. if t then c else pos 0) (and_left (nat_eq 
 share_other_k : (i j a b : ℕ) (c : ℤ) → j ≢ b → share i j a b c ≡ pos 0
 share_other_k i j a b c p = ap (λ t. if t then c else pos 0) (and_right (nat_eq i a) (nat_eq j b) (ne_eqb j b p))
 
+-- coefficients from n^i on add up to 0 below it, and so they do at another power of k
 row_below : (a b : ℕ) (cs : List Meaning) (i j : ℕ) → a < i → row_total a b cs i j ≡ pos 0
 row_below a b [] i j h = refl
 row_below a b (c ∷ cs) i j h =
@@ -66,6 +77,7 @@ row_other a b (c ∷ cs) i j h = omega (arith, ints, share_other_k i j a b (numb
 abbrev pub number_at : List Meaning → ℕ → ℤ
 number_at cs k = number_of (get_or cs k (number (pos 0)))
 
+-- else they add up to the one of that power
 row_here : (a b k : ℕ) (cs : List Meaning) (i j : ℕ) → a ≡ i + k → j ≡ b → row_total a b cs i j ≡ number_at cs k
 row_here a b k [] i j e s = refl
 row_here a b zero (c ∷ cs) i j e s =
@@ -73,6 +85,7 @@ row_here a b zero (c ∷ cs) i j e s =
 row_here a b (suc k) (c ∷ cs) i j e s =
     omega (arith, ints, share_other_n i j a b (number_of c) (omega arith), row_here a b k cs (suc i) j (omega arith) s)
 
+-- coefficients from k^j on add up to 0 below it
 table_below : (a b : ℕ) (ps : List Meaning) (j : ℕ) → b < j → table_total a b ps j ≡ pos 0
 table_below a b [] j h = refl
 table_below a b (p ∷ ps) j h = omega (arith, ints, row_other a b (items p) 0 j (omega arith), table_below a b ps (suc j) (omega arith))
@@ -81,6 +94,7 @@ table_below a b (p ∷ ps) j h = omega (arith, ints, row_other a b (items p) 0 j
 abbrev pub number_in : List Meaning → ℕ → ℕ → ℤ
 number_in ps k a = number_at (items (get_or ps k (listed []))) a
 
+-- else they add up to the one of both powers
 table_here : (a b k : ℕ) (ps : List Meaning) (j : ℕ) → b ≡ j + k → table_total a b ps j ≡ number_in ps k a
 table_here a b k [] j e = refl
 table_here a b zero (p ∷ ps) j e =
@@ -88,6 +102,7 @@ table_here a b zero (p ∷ ps) j e =
 table_here a b (suc k) (p ∷ ps) j e =
     omega (arith, ints, row_other a b (items p) 0 j (omega arith), table_here a b k ps (suc j) (omega arith))
 
+-- the monomials of a polynomial add up to its coefficients
 pub total_of_n : (cs : List Meaning) (a : ℕ) → total_at a 0 (monomials_in_n cs 0 0 []) ≡ number_at cs a
 total_of_n cs a = omega (arith, ints, total_in_n a 0 cs 0 0 [], row_here a 0 a cs 0 0 (omega arith) refl)
 
