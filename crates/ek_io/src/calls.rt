@@ -1,6 +1,6 @@
 //! The calls of a source or a sink in memory: their numbers, those that fail, and how many failed.
 
-ghost use Rattle.std.specs.Prelude.{◌≡◌, ℕ, ◌^◌, ◌≤◌, ◌↔◌, IsTrue, Contains};
+ghost use Rattle.std.specs.Prelude.{◌≡◌, ◌^◌, ◌≤◌, ◌↔◌, IsTrue, Contains};
 ghost use Rattle.ek_io.specs.Faults.{count_up, Rose, NeverFalls};
 
 /// Which call is next, and which calls are to fail.

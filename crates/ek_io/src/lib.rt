@@ -4,7 +4,7 @@
 //! `read_all` and `write_all_counted` move whole texts. `MemorySource`, `CleanSource` and
 //! `MemorySink` stand for the outside in tests, and fail where they are told to.
 //! What a count of faults says is in `specs/Faults.antt`, what several calls do together in
-//! `specs/Transfer.antt`, what is seen of the types in memory in `specs/Memory.antt`.
+//! `specs/Transfer.antt`, what is seen of the types in `specs/Memory.antt` and `specs/Standard.antt`.
 //! Read `streams.rt` (the traits), `transfer.rt`, then `calls.rt`, `memory_source.rt`,
 //! `clean_source.rt`, `memory_sink.rt` and `standard.rt`.
 #![tactic(auto)]

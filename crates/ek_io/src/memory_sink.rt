@@ -1,6 +1,6 @@
 //! A sink in memory that takes pieces, fails at listed calls, and has all its room from the start.
 
-ghost use Rattle.std.specs.Prelude.{◌≡◌, ℕ, ◌+◌, ◌^◌, ◌<◌, ◌≤◌, ◌↔◌, [], ◌++◌, take, length, max, vec_len, vec_capacity, Some, IsErr, IfOk, OnErr};
+ghost use Rattle.std.specs.Prelude.{◌≡◌, ◌+◌, ◌^◌, ◌<◌, ◌≤◌, ◌↔◌, ◌++◌, take, length, vec_len, vec_capacity, Some, IsErr, IfOk, OnErr};
 ghost use Rattle.std.specs.Io.{WritesAtMost};
 ghost use Rattle.std.specs.Io.KnownBytes.{Appends, Keeps};
 ghost use Rattle.ek_io.specs.Faults.{Rose, NeverFalls};
@@ -24,7 +24,7 @@ pub struct MemorySink {
 }
 
 impl Model for MemorySink {
-    ghost use Rattle.std.specs.Prelude.{◌≡◌, ◌<◌, ◌≤◌, vec_len, vec_capacity};
+    ghost use Rattle.std.specs.Prelude.{◌≡◌, ◌<◌, vec_capacity};
     ghost use Rattle.ek_io.specs.Memory.{SinkState, sink_room};
 
     ghost Value = { SinkState };

@@ -1,0 +1,9 @@
+pub mod Digits
+pub mod Cutting
+pub mod MonoTexts
+pub mod Numbers
+pub mod Spellings
+pub mod Left
+pub mod Values
+pub mod Kept
+mod KnownPowers

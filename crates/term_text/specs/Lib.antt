@@ -1,0 +1,4 @@
+pub mod PowersText
+pub mod PowersTree
+pub mod Powers
+pub mod Reading
