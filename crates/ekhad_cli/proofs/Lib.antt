@@ -1,0 +1,9 @@
+pub mod Signed
+pub mod Sums
+pub mod Divisors
+pub mod Quotients
+pub mod Antidifferences
+pub mod Polynomials
+pub mod Monomials
+pub mod Answering
+pub mod KnownBytes

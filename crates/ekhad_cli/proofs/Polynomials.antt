@@ -1,0 +1,96 @@
+-- Lists of numbers as polynomials: their values, their coefficients and their bounds.
+use Rattle.std.proofs.Common.{◌≡◌, ◌≢◌, ℕ, zero, suc, ◌<◌, ◌≤◌, ◌^◌, List, [], ◌∷◌, length, get_or, map, refl, ap, sym, ◌∙◌, arith, subst, Bool, true, false, lit<, Result, Ok, Err}
+use Rattle.std.proofs.lemmas.Bool.{and_from}
+use Rattle.std.specs.Prelude.{ℤ, pos, negsuc, ◌+ℤ◌, ◌*ℤ◌, unsigned_abs, IsTrue, ◌&&◌, All}
+use Rattle.ring_laws.specs.Meaning.{Meaning, number, listed, items, parted, joined, parted-joined}
+use Rattle.ring_laws.specs.Wholes.{whole_algebra, number_of, is_number}
+use Rattle.ring_laws.specs.Answer.{GivesInBounds}
+use Rattle.ring_laws.specs.declared.faults.RingFault.{RingFault}
+use Rattle.ring_laws.specs.declared.faults.RingFault.TheVariants.{TooLarge, Memory}
+use Rattle.poly_laws.specs.Lists.{coefficient_at, trimmed, in_front, is_trimmed}
+use Rattle.poly_laws.specs.PolyAlgebra.{every_passes}
+use Rattle.poly_laws.specs.Values.{horner, value_at, level}
+use Rattle.poly_laws.proofs.Keeps.{of_list, whole_keeps}
+use Rattle.poly_laws.proofs.Trimming.{is_trimmed_trimmed}
+use Rattle.document_text.specs.WellFormed.{IsPolynomial}
+use Rattle.ekhad_cli.specs.Antidifference.{value_of}
+use Rattle.ekhad_cli.specs.Answer.{coefficient}
+
+-- the polynomial with these coefficients
+abbrev pub polynomial_of : List ℤ → Meaning
+polynomial_of cs = listed (trimmed whole_algebra.ops (map number cs))
+
+horner_numbers : (k : ℤ) (cs : List ℤ) → horner number_of k (map number cs) ≡ value_of cs k
+horner_numbers k [] = refl
+horner_numbers k (c ∷ cs) = ap (λ z. c +ℤ k *ℤ z) (horner_numbers k cs)
+
+pub polynomial_value_of : (cs : List ℤ) (k : ℤ) → value_at (k ∷ []) (polynomial_of cs) ≡ value_of cs k
+polynomial_value_of cs k = of_list whole_algebra.ops number_of whole_keeps k (map number cs) ∙ horner_numbers k cs
+
+in_front_at : (c : ℤ) (t : List Meaning) (i : ℕ)
+    → number_of (coefficient_at whole_algebra.ops (in_front whole_algebra.ops (number c) t) i) ≡ number_of (coefficient_at whole_algebra.ops (number c ∷ t) i)
+in_front_at (pos zero) [] zero = refl
+in_front_at (pos zero) [] (suc i) = refl
+in_front_at (pos (suc n)) [] i = refl
+in_front_at (negsuc n) [] i = refl
+in_front_at c (y ∷ ys) i = refl
+
+trimmed_at : (cs : List ℤ) (i : ℕ) → number_of (coefficient_at whole_algebra.ops (trimmed whole_algebra.ops (map number cs)) i) ≡ get_or cs i (pos 0)
+trimmed_at [] i = refl
+trimmed_at (c ∷ cs) zero = in_front_at c (trimmed whole_algebra.ops (map number cs)) 0
+trimmed_at (c ∷ cs) (suc i) = in_front_at c (trimmed whole_algebra.ops (map number cs)) (suc i) ∙ trimmed_at cs i
+
+pub coefficient_of : (cs : List ℤ) (i : ℕ) → coefficient (polynomial_of cs) i ≡ get_or cs i (pos 0)
+coefficient_of cs i =
+    ap (λ xs. number_of (coefficient_at whole_algebra.ops xs i)) (parted-joined (trimmed whole_algebra.ops (map number cs))) ∙ trimmed_at cs i
+
+in_front_numbers : (c : ℤ) (t : List Meaning) → IsTrue (every_passes is_number t) → IsTrue (every_passes is_number (in_front whole_algebra.ops (number c) t))
+in_front_numbers (pos zero) [] h = refl
+in_front_numbers (pos (suc n)) [] h = refl
+in_front_numbers (negsuc n) [] h = refl
+in_front_numbers c (y ∷ ys) h = h
+
+trimmed_numbers : (cs : List ℤ) → IsTrue (every_passes is_number (trimmed whole_algebra.ops (map number cs)))
+trimmed_numbers [] = refl
+trimmed_numbers (c ∷ cs) = in_front_numbers c (trimmed whole_algebra.ops (map number cs)) (trimmed_numbers cs)
+
+in_front_length : (c : ℤ) (t : List Meaning) → length (in_front whole_algebra.ops (number c) t) ≤ suc (length t)
+in_front_length (pos zero) [] = omega arith
+in_front_length (pos (suc n)) [] = omega arith
+in_front_length (negsuc n) [] = omega arith
+in_front_length c (y ∷ ys) = omega arith
+
+pub trimmed_length : (cs : List ℤ) → length (trimmed whole_algebra.ops (map number cs)) ≤ length cs
+trimmed_length [] = omega arith
+trimmed_length (c ∷ cs) = omega (arith, in_front_length c (trimmed whole_algebra.ops (map number cs)), trimmed_length cs)
+
+small_at : (cs : List ℤ) (i : ℕ) → All (λ c. unsigned_abs c ≤ 1500000000) cs → unsigned_abs (get_or cs i (pos 0)) ≤ 1500000000
+small_at [] i h = omega arith
+small_at (c ∷ cs) zero h = h 0 (pos 0) (omega arith)
+small_at (c ∷ cs) (suc i) h = small_at cs i (λ j d k. h (suc j) d (omega arith))
+
+-- few small numbers are within the bounds of a polynomial
+pub polynomial_bounded : (cs : List ℤ) → length cs ≤ 256 → All (λ c. unsigned_abs c ≤ 1500000000) cs → IsPolynomial 1 (polynomial_of cs)
+polynomial_bounded cs short small = record {
+  passes = and_from _ _
+      (ap (every_passes is_number) (parted-joined (trimmed whole_algebra.ops (map number cs))) ∙ trimmed_numbers cs)
+      (ap (is_trimmed whole_algebra.ops) (parted-joined (trimmed whole_algebra.ops (map number cs))) ∙ is_trimmed_trimmed whole_algebra.ops (map number cs));
+  fits = (
+    omega (arith, ap length (parted-joined (trimmed whole_algebra.ops (map number cs))), trimmed_length cs, short),
+    λ i. below (coefficient (polynomial_of cs) i) (omega (arith, ap unsigned_abs (coefficient_of cs i), small_at cs i small)),
+  );
+}
+  where
+    below : (z : ℤ) → unsigned_abs z ≤ 1500000000 → unsigned_abs z < 2 ^ 127
+    below z h = omega (arith, h)
+
+-- a polynomial without coefficients is 0 everywhere
+pub some_coefficient : (cs : List ℤ) (k : ℤ) → value_of cs k ≢ pos 0 → items (polynomial_of cs) ≢ []
+some_coefficient cs k h e = h (sym (polynomial_value_of cs k) ∙ ap (horner number_of k) e)
+
+-- an answer that is too large only outside the bounds isn't so within them
+pub never_too_large : {T : Type 0} (meaning : T → Meaning) (InBounds : Type 0) (m : Meaning) (r : Result T RingFault)
+    → InBounds → GivesInBounds meaning InBounds m r → r ≢ Err TooLarge
+never_too_large meaning InBounds m (Ok x) b g e = cc
+never_too_large meaning InBounds m (Err TooLarge) b g e = g b
+never_too_large meaning InBounds m (Err Memory) b g e = cc

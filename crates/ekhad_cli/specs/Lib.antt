@@ -1,0 +1,3 @@
+pub mod Antidifference
+pub mod Answer
+pub mod Run
