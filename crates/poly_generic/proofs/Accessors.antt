@@ -3,9 +3,9 @@ use Rattle.std.proofs.Common.{◌≡◌, ℕ, ◌<◌, ◌≤◌, ◌-◌, refl,
 use Rattle.std.specs.Prelude.{◌≢◌}
 use Rattle.std.specs.Option.{IfSome}
 use Rattle.std.proofs.lemmas.List.{length-map}
-use Rattle.ring_laws.specs.Meaning.{Meaning, items, listed, parted-joined}
-use Rattle.ring_laws.specs.Algebra.{Ops}
 use Rattle.poly_laws.specs.Lists.{coefficient_at}
+use Rattle.ring_laws.specs.Algebra.{Ops}
+use Rattle.ring_laws.specs.Meaning.{Meaning, listed, items, parted-joined}
 use Rattle.poly_generic.proofs.ListLemmas.{at_item}
 
 module _ {T : Type 0} (o : Ops Meaning) (meaning : T → Meaning) (slice xs : List T) (e : slice ≡ xs) where

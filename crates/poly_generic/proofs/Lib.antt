@@ -1,4 +1,12 @@
 pub mod ListLemmas
 pub mod AnswerLemmas
-pub mod PolyLemmas
 pub mod Accessors
+pub mod PolyAnswers
+pub mod Senses
+pub mod ProductSteps
+pub mod SumAnswers
+pub mod ProductAnswers
+pub mod DivideAnswers
+pub mod DomainAnswers
+pub mod StepAnswers
+pub mod EvalAnswers

@@ -60,7 +60,7 @@ pub fn sums<R: Ring>(alloc: Global, a: &[R], b: &[R]) -> Result<Vec<R>, RingFaul
 }
 
 // Each coefficient times the factor.
-fn scaled<R: Ring>(alloc: Global, factor: &R, list: &[R]) -> Result<Vec<R>, RingFault>
+pub fn scaled<R: Ring>(alloc: Global, factor: &R, list: &[R]) -> Result<Vec<R>, RingFault>
     ensures { GivesList R.meaning (ScalingInBounds R.algebra (R.meaning factor.now) (map R.meaning list.now))
         (map (R.algebra.ops.product (R.meaning factor.now)) (map R.meaning list.now)) result }
 {
@@ -73,7 +73,7 @@ fn scaled<R: Ring>(alloc: Global, factor: &R, list: &[R]) -> Result<Vec<R>, Ring
 }
 
 // A zero in front of the list: the list times the variable.
-fn raised<R: Ring>(alloc: Global, list: Vec<R>) -> Result<Vec<R>, RingFault>
+pub fn raised<R: Ring>(alloc: Global, list: Vec<R>) -> Result<Vec<R>, RingFault>
     ensures { GivesList R.meaning ⊤ (R.algebra.ops.nought ∷ map R.meaning list.items) result }
 {
     let zero = R::zero(alloc)?;

@@ -4,12 +4,18 @@ ghost use Rattle.std.specs.Prelude.{◌≡◌, ◌≢◌, ◌≤◌, ◌<◌, �
 ghost use Rattle.ring_laws.specs.Meaning.{Meaning, listed, items};
 ghost use Rattle.ring_laws.specs.Answer.{Gives, GivesInBounds};
 ghost use Rattle.poly_laws.specs.Lists.{coefficient_at, trimmed, is_trimmed};
+ghost use Rattle.poly_laws.specs.Evaluation.{list_value, ValueInBounds};
+ghost use Rattle.poly_laws.specs.Shift.{poly_shift, ListShiftInBounds};
+ghost use Rattle.poly_laws.specs.LongDivision.{DivisionInBounds};
 ghost use Rattle.poly_laws.specs.PolyAlgebra.{poly_algebra};
+ghost use Rattle.poly_laws.proofs.PolyDomain.{poly_domain};
 ghost use Rattle.poly_laws.proofs.PolyMagnitudes.{poly_laws};
 ghost use Rattle.poly_laws.proofs.Belonging.{value_passes, value_fits};
 
+use crate::division::{all_zero, divide_lists};
+use crate::evaluation::{shift_of_list, value_of_list};
 use crate::lists::{copies, magnitudes, negatives, product_of_lists, same_lists, sums, trim};
-use ring_laws::{Ring, RingFault, Whole};
+use ring_laws::{Domain, Ring, RingFault, Whole};
 use std::alloc::Global;
 
 /// A polynomial over a ring: its coefficients from power 0 up, the last one not zero, at most 256 of them.
@@ -79,6 +85,39 @@ impl<R: Ring> Poly<R> {
         ensures short { length result.now ≤ 256 }
     {
         &self.list
+    }
+
+    /// The value at a value of the ring.
+    ///
+    /// `TooLarge` comes exactly where the same sum of powers on magnitudes doesn't fit.
+    pub fn eval(&self, alloc: Global, at: &R) -> Result<R, RingFault>
+        ensures gives { GivesInBounds R.meaning (ValueInBounds R.algebra (R.meaning at.now) (items (⟦<Poly<R> as Ring>⟧.meaning self.now)))
+            (list_value R.algebra.ops (R.meaning at.now) (items (⟦<Poly<R> as Ring>⟧.meaning self.now))) result }
+    {
+        let sizes = magnitudes(alloc, &self.list)?;
+        let size = at.magnitude(alloc)?;
+        let _bound = value_of_list(alloc, &sizes, &size)?;
+        let value = value_of_list(alloc, &self.list, at)?;
+        Ok(value)
+    }
+
+    /// The polynomial at the variable plus a number.
+    ///
+    /// `TooLarge` comes exactly where some coefficient of the shift of the magnitudes doesn't fit.
+    pub fn shift_by(&self, alloc: Global, by: i64) -> Result<Poly<R>, RingFault>
+        ensures gives { GivesInBounds ⟦<Poly<R> as Ring>⟧.meaning
+            (ListShiftInBounds R.algebra (R.algebra.ops.whole by) (items (⟦<Poly<R> as Ring>⟧.meaning self.now)))
+            (poly_shift R.algebra.ops by (⟦<Poly<R> as Ring>⟧.meaning self.now)) result }
+    {
+        let Some(by) = Whole::new(i128::from(by)) else {
+            return Err(RingFault::TooLarge);
+        };
+        let by = R::whole(alloc, by)?;
+        let sizes = magnitudes(alloc, &self.list)?;
+        let size = by.magnitude(alloc)?;
+        let _bound = shift_of_list(alloc, &sizes, &size)?;
+        let list = shift_of_list(alloc, &self.list, &by)?;
+        Poly::from_coefficients(list)
     }
 }
 
@@ -159,5 +198,26 @@ impl<R: Ring> Ring for Poly<R> {
 
     fn same(&self, other: &Poly<R>) -> bool {
         same_lists(&self.list, &other.list)
+    }
+}
+
+impl<D: Domain> Domain for Poly<D> {
+    ghost division_in_bounds = { DivisionInBounds D.algebra D.division_in_bounds };
+
+    ghost domain_laws = { poly_domain D.algebra D.laws D.domain_laws };
+
+    fn divide_exact(&self, alloc: Global, by: &Poly<D>) -> Result<Option<Poly<D>>, RingFault> {
+        let degree = by.list.len() - 1;
+        match divide_lists(alloc, &self.list, &by.list[..degree], &by.list[degree])? {
+            Some(divided) => {
+                if all_zero(&divided.rest) {
+                    let quotient = Poly::from_coefficients(divided.quotient)?;
+                    Ok(Some(quotient))
+                } else {
+                    Ok(None)
+                }
+            }
+            None => Ok(None),
+        }
     }
 }

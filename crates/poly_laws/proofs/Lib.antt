@@ -16,3 +16,10 @@ pub mod Determined
 pub mod Equal
 pub mod Uses
 mod KnownValues
+pub mod OneQuotient
+pub mod PolyDomain
+pub mod DivisionRuns
+pub mod Quotients
+pub mod ValuesInBounds
+pub mod ShiftsInBounds
+pub mod StepMeanings

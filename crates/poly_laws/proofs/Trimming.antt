@@ -1,6 +1,6 @@
 -- What trimming leaves of a list of coefficients, and how long a trimmed list is.
 use Rattle.std.specs.Prelude.{◌≤◌, ◌⊎◌, length, ◌≡◌, ℕ, zero, suc, Bool, true, false, cond, not, IsTrue, List, [], ◌∷◌, get_or, refl}
-use Rattle.std.proofs.Common.{inl, inr, arith, ap, sym, ◌∙◌}
+use Rattle.std.proofs.Common.{inl, inr, arith, ap, sym, subst, ◌∙◌}
 use Rattle.ring_laws.specs.Algebra.{Ops, RingLaws}
 use Rattle.std.proofs.lemmas.Bool.{cases_lt}
 use Rattle.poly_laws.specs.Lists.{coefficient_at, in_front, trimmed, is_trimmed, SameCoefficients}
@@ -78,3 +78,20 @@ length_within o l (x ∷ xs) n h e = go (last_not o l x xs h) (cases_lt (length 
     go : ¬ (coefficient_at o (x ∷ xs) (length xs) ≡ o.nought) → (suc (length xs) ≤ n) ⊎ (n ≤ length xs) → suc (length xs) ≤ n
     go ne (inl p) = p
     go ne (inr q) = absurd (ne (e (length xs) q))
+
+-- one item in front
+pub length-in_front : {A : Type 0} (o : Ops A) (x : A) (t : List A) (b : Bool) → o.is_nought x ≡ b → length (in_front o x t) ≤ suc (length t)
+length-in_front o x [] true e = subst (λ t. length t ≤ 1) (sym (short e)) (omega arith)
+  where
+    short : o.is_nought x ≡ true → in_front o x [] ≡ []
+    short e = rw e refl
+length-in_front o x [] false e = subst (λ t. length t ≤ 1) (sym (kept e)) (omega arith)
+  where
+    kept : o.is_nought x ≡ false → in_front o x [] ≡ x ∷ []
+    kept e = rw e refl
+length-in_front o x (y ∷ ys) b e = omega arith
+
+-- trimming leaves no more items
+pub length-trimmed : {A : Type 0} (o : Ops A) (xs : List A) → length (trimmed o xs) ≤ length xs
+length-trimmed o [] = omega arith
+length-trimmed o (x ∷ xs) = omega (arith, length-in_front o x (trimmed o xs) (o.is_nought x) refl, length-trimmed o xs)

@@ -3,3 +3,5 @@ pub mod PolyAlgebra
 pub mod Bounds
 pub mod Values
 pub mod Shift
+pub mod LongDivision
+pub mod Evaluation

@@ -1,1 +1,2 @@
+mod KnownWholes
 mod Quotients

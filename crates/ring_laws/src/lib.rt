@@ -17,3 +17,6 @@ pub use domains::Domain;
 pub use faults::RingFault;
 pub use rings::Ring;
 pub use wholes::{Sign, Whole};
+
+#[cfg(test)]
+mod tests;

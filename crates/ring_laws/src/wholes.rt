@@ -29,6 +29,7 @@ pub enum Sign {
 /// A whole number below 2^127 in magnitude. None of its calls takes memory.
 #[derive(Clone, Copy, Debug, PartialEq, Eq, Drop)]
 pub struct Whole {
+    /// The number.
     pub value: i128,
     ghost small: { unsigned_abs value < 2 ^ 127 },
 }

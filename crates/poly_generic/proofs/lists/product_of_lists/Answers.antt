@@ -3,7 +3,8 @@ use Rattle.poly_laws.specs.Bounds.{ListSumInBounds}
 use Rattle.poly_laws.specs.Lists.{list_product}
 use Rattle.ring_laws.specs.Answer.{OnFault}
 use Rattle.poly_generic.proofs.AnswerLemmas.{fault_list}
-use Rattle.poly_generic.proofs.PolyLemmas.{two, row_fault, step_fault}
+use Rattle.poly_generic.proofs.PolyAnswers.{two}
+use Rattle.poly_generic.proofs.ProductSteps.{row_fault, step_fault}
 use Rattle.poly_generic.proofs.lists.product_of_lists.Goals as goal
 
 pub returns-in_err-row : goal.returns-in_err-row

@@ -1,5 +1,5 @@
 use Rattle.std.proofs.Common.{map, ◌≡◌, arith}
-use Rattle.poly_generic.proofs.PolyLemmas.{apart}
+use Rattle.poly_generic.proofs.PolyAnswers.{apart}
 use Rattle.poly_generic.proofs.lists.same_lists.Goals as goal
 
 pub returns-then-not-same : goal.returns-then-not-same

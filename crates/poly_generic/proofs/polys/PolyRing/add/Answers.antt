@@ -2,7 +2,8 @@ use Rattle.std.proofs.Common.{map, ◌≡◌}
 use Rattle.poly_laws.specs.Bounds.{ListSumInBounds}
 use Rattle.poly_laws.specs.Lists.{list_sum}
 use Rattle.ring_laws.specs.Answer.{OnFault}
-use Rattle.poly_generic.proofs.PolyLemmas.{fault_poly, two, sum_fault, sum_given}
+use Rattle.poly_generic.proofs.PolyAnswers.{fault_poly, two}
+use Rattle.poly_generic.proofs.SumAnswers.{sum_fault, sum_given}
 use Rattle.poly_generic.proofs.polys.PolyRing.add.Goals as goal
 
 pub returns-in_err-list : goal.returns-in_err-list

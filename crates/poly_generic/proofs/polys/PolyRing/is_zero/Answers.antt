@@ -1,6 +1,6 @@
 use Rattle.std.proofs.Common.{◌≡◌, map, length, vec_len, nat_eq, ap, sym, ◌∙◌, arith}
 use Rattle.std.proofs.lemmas.List.{length-map}
-use Rattle.poly_generic.proofs.PolyLemmas.{empty_is, same_truth}
+use Rattle.poly_generic.proofs.PolyAnswers.{empty_is, same_truth}
 use Rattle.poly_generic.proofs.polys.PolyRing.is_zero.Goals as goal
 
 pub returns : goal.returns

@@ -2,7 +2,8 @@ use Rattle.std.proofs.Common.{map, ◌≡◌, ◌∙◌, ap}
 use Rattle.poly_laws.specs.Bounds.{ListProductInBounds}
 use Rattle.poly_laws.specs.Lists.{list_product}
 use Rattle.ring_laws.specs.Answer.{OnFault}
-use Rattle.poly_generic.proofs.PolyLemmas.{fault_poly, two, bound_fault, long_fault, product_fault, product_given}
+use Rattle.poly_generic.proofs.PolyAnswers.{fault_poly, two}
+use Rattle.poly_generic.proofs.ProductAnswers.{bound_fault, long_fault, product_fault, product_given}
 use Rattle.poly_generic.proofs.polys.PolyRing.mul.Goals as goal
 
 pub returns-in_err-bound : goal.returns-in_err-bound

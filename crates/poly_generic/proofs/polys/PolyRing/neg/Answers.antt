@@ -1,7 +1,7 @@
 use Rattle.std.proofs.Common.{map, length, ap, arith, ◌≡◌, ◌∙◌, sym}
 use Rattle.std.proofs.lemmas.List.{length-map}
 use Rattle.ring_laws.specs.Meaning.{joined, parted, parted-joined}
-use Rattle.poly_generic.proofs.PolyLemmas.{given_trimmed}
+use Rattle.poly_generic.proofs.PolyAnswers.{given_trimmed}
 use Rattle.poly_generic.proofs.polys.PolyRing.neg.Goals as goal
 
 pub returns : goal.returns

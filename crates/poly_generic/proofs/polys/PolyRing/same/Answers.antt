@@ -1,5 +1,5 @@
 use Rattle.std.proofs.Common.{map, ◌≡◌, ◌↔◌, IsTrue}
-use Rattle.poly_generic.proofs.PolyLemmas.{two, same_iff}
+use Rattle.poly_generic.proofs.PolyAnswers.{two, same_iff}
 use Rattle.poly_generic.proofs.polys.PolyRing.same.Goals as goal
 
 pub returns : goal.returns

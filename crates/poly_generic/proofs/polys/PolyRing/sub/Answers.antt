@@ -1,6 +1,6 @@
 use Rattle.std.proofs.Common.{map}
 use Rattle.ring_laws.specs.Meaning.{listed}
-use Rattle.poly_generic.proofs.PolyLemmas.{difference_given}
+use Rattle.poly_generic.proofs.SumAnswers.{difference_given}
 use Rattle.poly_generic.proofs.polys.PolyRing.sub.Goals as goal
 
 pub returns : goal.returns

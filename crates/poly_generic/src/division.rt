@@ -1,0 +1,83 @@
+//! Long division of lists of coefficients, from the greatest power down.
+
+ghost use Rattle.std.specs.Prelude.{◌≡◌, ◌↔◌, IsTrue, IsFalse, map, length, replicate, ⊤};
+ghost use Rattle.poly_laws.specs.LongDivision.{list_less, all_nought, ReductionInBounds};
+ghost use Rattle.poly_generic.specs.ListAnswer.{GivesList, DividesList};
+
+use ring_laws::{Domain, Ring, RingFault};
+use std::alloc::Global;
+
+/// What a division of a list by another leaves.
+#[derive(Drop)]
+pub struct Divided<D> {
+    pub quotient: Vec<D>,
+    pub rest: Vec<D>,
+}
+
+// This many zeros.
+fn zeros<R: Ring>(alloc: Global, count: usize) -> Result<Vec<R>, RingFault>
+    ensures { GivesList R.meaning ⊤ (replicate count R.algebra.ops.nought) result }
+{
+    let mut out = Vec::new(alloc);
+    for at in 0..count {
+        let item = R::zero(alloc)?;
+        out.push(item)?;
+    }
+    Ok(out)
+}
+
+// The list less the factor times the other list, at each power.
+fn reduced<R: Ring>(alloc: Global, list: &[R], factor: &R, by: &[R]) -> Result<Vec<R>, RingFault>
+    requires same_length { length list.now ≡ length by.now }
+    ensures { GivesList R.meaning (ReductionInBounds R.algebra (map R.meaning list.now) (R.meaning factor.now) (map R.meaning by.now))
+        (list_less R.algebra.ops (map R.meaning list.now) (R.meaning factor.now) (map R.meaning by.now)) result }
+{
+    let mut out = Vec::new(alloc);
+    for power in 0..list.len() {
+        let part = factor.mul(alloc, &by[power])?;
+        let item = list[power].sub(alloc, &part)?;
+        out.push(item)?;
+    }
+    Ok(out)
+}
+
+// Whether each coefficient is zero.
+pub fn all_zero<R: Ring>(list: &[R]) -> bool
+    ensures { IsTrue result ↔ IsTrue (all_nought R.algebra.ops (map R.meaning list.now)) }
+{
+    for item in list {
+        if !item.is_zero() {
+            return false;
+        }
+    }
+    true
+}
+
+// The quotient of the list by `low` and then `lead`, and the rest; none where some step has no coefficient.
+pub fn divide_lists<D: Domain>(
+    alloc: Global,
+    list: &[D],
+    low: &[D],
+    lead: &D,
+) -> Result<Option<Divided<D>>, RingFault>
+    requires not_zero { IsFalse (D.algebra.ops.is_nought (D.meaning lead.now)) }
+    ensures { DividesList D.algebra D.division_in_bounds (λ divided. map D.meaning divided.quotient.items) (λ divided. map D.meaning divided.rest.items)
+        (map D.meaning list.now) (map D.meaning low.now) (D.meaning lead.now) result }
+{
+    let mut quotient: Vec<D> = Vec::new(alloc);
+    let mut rest: Vec<D> = zeros(alloc, low.len())?;
+    let mut power = list.len();
+    while power > 0 {
+        power -= 1;
+        let item = list[power].duplicate(alloc)?;
+        rest.insert(0, item)?;
+        let top = rest.pop().unwrap();
+        let part = match top.divide_exact(alloc, lead)? {
+            Some(part) => part,
+            None => return Ok(None),
+        };
+        rest = reduced(alloc, &rest, &part, low)?;
+        quotient.insert(0, part)?;
+    }
+    Ok(Some(Divided { quotient, rest }))
+}

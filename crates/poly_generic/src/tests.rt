@@ -1,0 +1,126 @@
+use crate::{Poly, Zn, Znk};
+use ring_laws::{Domain, Ring, RingFault, Whole};
+use std::alloc::Global;
+
+// The number as a value of the ring.
+fn number<R: Ring>(alloc: Global, value: i128) -> Result<R, RingFault> {
+    match Whole::new(value) {
+        Some(whole) => R::whole(alloc, whole),
+        None => Err(RingFault::TooLarge),
+    }
+}
+
+// The polynomial with these two coefficients.
+fn line<R: Ring>(alloc: Global, constant: R, slope: R) -> Result<Poly<R>, RingFault> {
+    let mut list = Vec::new(alloc);
+    list.push(constant)?;
+    list.push(slope)?;
+    Poly::from_coefficients(list)
+}
+
+// The polynomial with these numbers as coefficients.
+fn numbers<R: Ring>(alloc: Global, values: &[i128]) -> Result<Poly<R>, RingFault> {
+    let mut list = Vec::new(alloc);
+    for value in values {
+        let item = number(alloc, *value)?;
+        list.push(item)?;
+    }
+    Poly::from_coefficients(list)
+}
+
+#[test]
+fn lines_are_added_and_multiplied(rt: HostRuntime) -> Result<(), RingFault> {
+    let alloc = rt.alloc();
+    let above: Zn = numbers(alloc, &[1, 1])?;
+    let below: Zn = numbers(alloc, &[-1, 1])?;
+    assert!(rt;
+        above
+            .mul(alloc, &below)?
+            .same(&numbers(alloc, &[-1, 0, 1])?)
+    );
+    assert!(rt; above.add(alloc, &below)?.same(&numbers(alloc, &[0, 2])?));
+    assert!(rt; above.sub(alloc, &below)?.same(&numbers(alloc, &[2])?));
+    assert!(rt; below.magnitude(alloc)?.same(&above));
+    assert!(rt; below.neg(alloc)?.same(&numbers(alloc, &[1, -1])?));
+    assert!(rt; below.duplicate(alloc)?.same(&below));
+    Ok(())
+}
+
+#[test]
+fn constants_and_coefficients(rt: HostRuntime) -> Result<(), RingFault> {
+    let alloc = rt.alloc();
+    let zero = Zn::zero(alloc)?;
+    assert!(rt; zero.is_zero() && zero.degree().is_none() && zero.lead().is_none());
+    assert!(rt; Zn::one(alloc)?.same(&numbers(alloc, &[1])?));
+    let three: Zn = number(alloc, 3)?;
+    assert!(rt; three.same(&numbers(alloc, &[3, 0, 0])?));
+    assert_eq!(rt; three.degree(), Some(0));
+    assert_eq!(rt; three.coefficient(0).map(|item| item.value()), Some(3));
+    assert!(rt; three.coefficient(1).is_none());
+    Ok(())
+}
+
+// A sum of magnitudes decides, and not the number that is left.
+#[test]
+fn cancelled_numbers_are_too_large(rt: HostRuntime) -> Result<(), RingFault> {
+    let alloc = rt.alloc();
+    let half: i128 = 1 << 63;
+    let plus: Znk = numbers(alloc, &[half, half])?;
+    let minus: Znk = numbers(alloc, &[half, -half])?;
+    assert!(rt; matches!(plus.mul(alloc, &minus), Err(RingFault::TooLarge)));
+    let less: Znk = numbers(alloc, &[half, half - 1])?;
+    assert!(rt; less.mul(alloc, &minus).is_ok());
+    Ok(())
+}
+
+#[test]
+fn three_levels(rt: HostRuntime) -> Result<(), RingFault> {
+    let alloc = rt.alloc();
+    let outermost: Poly<Znk> = line(alloc, number(alloc, 0)?, number(alloc, 1)?)?;
+    let square = outermost.mul(alloc, &outermost)?;
+    assert_eq!(rt; square.degree(), Some(2));
+    assert!(rt; square.lead().is_some());
+    assert!(rt; outermost.add(alloc, &outermost.neg(alloc)?)?.is_zero());
+    Ok(())
+}
+
+// slope * n + k
+fn form(alloc: Global, slope: i128) -> Result<Znk, RingFault> {
+    line(alloc, numbers(alloc, &[0, slope])?, number(alloc, 1)?)
+}
+
+// The quotient, and `TooLarge` for a divisor of zero.
+fn quotient<D: Domain>(alloc: Global, dividend: &D, by: &D) -> Result<Option<D>, RingFault> {
+    if by.is_zero() {
+        return Err(RingFault::TooLarge);
+    }
+    dividend.divide_exact(alloc, by)
+}
+
+#[test]
+fn a_difference_of_squares_is_divided(rt: HostRuntime) -> Result<(), RingFault> {
+    let alloc = rt.alloc();
+    let sum = form(alloc, 1)?;
+    let difference = form(alloc, -1)?;
+    let squares = sum.mul(alloc, &difference)?;
+    match quotient(alloc, &squares, &difference)? {
+        Some(found) => assert!(rt; found.same(&sum)),
+        None => assert!(rt; false),
+    }
+    assert!(rt; quotient(alloc, &squares, &form(alloc, -2)?)?.is_none());
+    Ok(())
+}
+
+#[test]
+fn values_and_shifts(rt: HostRuntime) -> Result<(), RingFault> {
+    let alloc = rt.alloc();
+    let above_square: Zn = numbers(alloc, &[1, 0, 1])?;
+    assert_eq!(rt; above_square.eval(alloc, &number(alloc, 3)?)?.value(), 10);
+    let square: Zn = numbers(alloc, &[0, 0, 1])?;
+    assert!(rt;
+        square
+            .shift_by(alloc, 1)?
+            .same(&numbers(alloc, &[1, 2, 1])?)
+    );
+    Ok(())
+}
