@@ -1,5 +1,5 @@
 -- The document of a text from the numbers that the engine found.
-use Rattle.std.proofs.Common.{◌≡◌, ◌≢◌, ℕ, zero, suc, ◌<◌, ◌≤◌, List, [], ◌∷◌, length, get_or, refl, ap, sym, ◌∙◌, arith, subst}
+use Rattle.std.proofs.Common.{◌≡◌, ◌≢◌, ℕ, ◌≤◌, List, [], ◌∷◌, length, get_or, refl, ap, sym, ◌∙◌, arith, subst}
 use Rattle.std.proofs.lemmas.List.{get_or_default}
 use Rattle.std.proofs.lemmas.List.Elements.{All-weaker}
 use Rattle.std.specs.Int.{◌∣◌}
@@ -20,7 +20,7 @@ use Rattle.cert_text.proofs.PolynomialClaims.{polynomial_document_well_formed, p
 use Rattle.term_text.specs.declared.Monomial.{Monomial}
 use Rattle.term_text.specs.Powers.{IsRead, HasValueOf, powers_value}
 use Rattle.ekhad_cli.specs.Antidifference.{value_of, DividesAll, IsLeastAntidifference}
-use Rattle.ekhad_cli.specs.Answer.{scale_of, polynomial_value, coefficient, IsTermOf, IsLeast, IsAntidifferenceOf}
+use Rattle.ekhad_cli.specs.Answer.{scale_of, polynomial_value, coefficient, IsLeast, IsAntidifferenceOf}
 use Rattle.ekhad_cli.specs.Run.{IsAnswerText}
 use Rattle.ekhad_cli.proofs.Polynomials.{polynomial_of, polynomial_value_of, coefficient_of, polynomial_bounded}
 
@@ -50,7 +50,8 @@ pub antidifference_of : (ms : List Monomial) (cs ys : List ℤ) (scale a : ℤ) 
     → IsAntidifferenceOf ms poly scale a y
 antidifference_of ms cs ys scale a poly y p q few some small light values is least = record {
   term = record {
-    bounded = subst (IsPolynomial 1) (sym p) (polynomial_bounded cs few (All-weaker (λ c. unsigned_abs c ≤ 5000000) (λ c. unsigned_abs c ≤ 1500000000) (λ c h. omega (arith, h)) cs small));
+    bounded = subst (IsPolynomial 1) (sym p)
+        (polynomial_bounded cs few (All-weaker (λ c. unsigned_abs c ≤ 5000000) (λ c. unsigned_abs c ≤ 1500000000) (λ c h. omega (arith, h)) cs small));
     values = λ k. ap (value_at (k ∷ [])) p ∙ polynomial_value_of cs k ∙ values k;
     scale_is = is;
   };
@@ -72,9 +73,8 @@ answered {poly} {y} {scale} {a} {carrier} input text root ms seen read values sa
     let found : IsAntidifferenceOf ms poly scale a y = subst (λ (xs : List Monomial). IsAntidifferenceOf xs poly scale a y) saw given in
     let d : Document = polynomial_document poly scale a scale y in
     let whole : (n k : ℤ) → term_value root n k ≡ of_whole (scale *ℤ value_at (k ∷ []) poly) =
-        λ n k. values n k ∙ ap of_whole (scaled_value ms k ∙ ap (λ z. z *ℤ polynomial_value ms k) (sym found.term.scale_is)
-        ∙ ap (λ z. scale *ℤ z) (sym (found.term.values k))) in
-    (
+    λ n k. values n k ∙ ap of_whole (scaled_value ms k ∙ ap (λ z. z *ℤ polynomial_value ms k) (sym found.term.scale_is)
+    ∙ ap (λ z. scale *ℤ z) (sym (found.term.values k))) in (
       d,
       record {
         tree = root;

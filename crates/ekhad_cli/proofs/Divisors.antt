@@ -1,5 +1,5 @@
 -- Common divisors of lists of numbers, and exact quotients.
-use Rattle.std.proofs.Common.{◌≡◌, ◌≢◌, ℕ, zero, suc, ◌+◌, ◌*◌, ◌%◌, ◌<◌, ◌≤◌, ◌↔◌, List, [], ◌∷◌, length, get_or, take, refl, ap, sym, ◌∙◌, arith, subst}
+use Rattle.std.proofs.Common.{◌≡◌, ℕ, zero, suc, ◌+◌, ◌*◌, ◌%◌, ◌<◌, ◌≤◌, ◌↔◌, List, length, get_or, take, ap, sym, ◌∙◌, arith, subst}
 use Rattle.std.proofs.lemmas.Int.{ints, quot-rem, unsigned_abs-mul}
 use Rattle.std.proofs.lemmas.Grind.{common_steps}
 use Rattle.std.proofs.lemmas.List.{get_or-take}
@@ -7,7 +7,7 @@ use Rattle.std.proofs.lemmas.List.Elements.{All-more, All-take}
 use Rattle.std.proofs.lemmas.Nat.Gcd.{mod-eq-zero_of_dvd, dvd_trans}
 use Rattle.std.specs.Int.{◌∣◌, IsGcd}
 use Rattle.std.specs.Int.RustNames.{int_div, int_rem}
-use Rattle.std.specs.Prelude.{ℤ, pos, negsuc, ◌+ℤ◌, ◌*ℤ◌, ◌<ℤ◌, unsigned_abs, All}
+use Rattle.std.specs.Prelude.{ℤ, pos, negsuc, ◌*ℤ◌, ◌<ℤ◌, unsigned_abs}
 use Rattle.ekhad_cli.specs.Antidifference.{DividesAll}
 
 no_rest : (a d : ℤ) → unsigned_abs d ∣ unsigned_abs a → int_rem a d ≡ pos 0
@@ -32,8 +32,8 @@ pub common_more : (before number after i : ℕ) (zs : List ℤ) → i < length z
     → (d : ℕ) → (d ∣ after) ↔ ((d ∣ 60) × DividesAll d (take (i + 1) zs))
 common_more before number after i zs h e gcd so_far d = (
   λ divides.
-  let were = (so_far d).0 (dvd_trans d divides gcd.0) in
-  (were.0, All-more (λ z. d ∣ unsigned_abs z) zs i (pos 0) h were.1 (subst (λ n. d ∣ n) e (dvd_trans d divides gcd.1))),
+      let were = (so_far d).0 (dvd_trans d divides gcd.0) in
+      (were.0, All-more (λ z. d ∣ unsigned_abs z) zs i (pos 0) h were.1 (subst (λ n. d ∣ n) e (dvd_trans d divides gcd.1))),
   λ common. gcd.2 d ((so_far d).1 (common.0, All-fewer zs i d common.1)) (subst (λ n. d ∣ n) (sym e) (here zs i d h common.1)),
 )
   where

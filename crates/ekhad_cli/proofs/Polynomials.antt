@@ -1,15 +1,15 @@
 -- Lists of numbers as polynomials: their values, their coefficients and their bounds.
-use Rattle.std.proofs.Common.{◌≡◌, ◌≢◌, ℕ, zero, suc, ◌<◌, ◌≤◌, ◌^◌, List, [], ◌∷◌, length, get_or, map, refl, ap, sym, ◌∙◌, arith, subst, Bool, true, false, lit<, Result, Ok, Err}
+use Rattle.std.proofs.Common.{◌≡◌, ◌≢◌, ℕ, zero, suc, ◌<◌, ◌≤◌, ◌^◌, List, [], ◌∷◌, length, get_or, map, refl, ap, sym, ◌∙◌, arith, Result, Ok, Err}
 use Rattle.std.proofs.lemmas.Bool.{and_from}
-use Rattle.std.specs.Prelude.{ℤ, pos, negsuc, ◌+ℤ◌, ◌*ℤ◌, unsigned_abs, IsTrue, ◌&&◌, All}
-use Rattle.ring_laws.specs.Meaning.{Meaning, number, listed, items, parted, joined, parted-joined}
+use Rattle.std.specs.Prelude.{ℤ, pos, negsuc, ◌+ℤ◌, ◌*ℤ◌, unsigned_abs, IsTrue, All}
+use Rattle.ring_laws.specs.Meaning.{Meaning, number, listed, items, parted-joined}
 use Rattle.ring_laws.specs.Wholes.{whole_algebra, number_of, is_number}
 use Rattle.ring_laws.specs.Answer.{GivesInBounds}
 use Rattle.ring_laws.specs.declared.faults.RingFault.{RingFault}
 use Rattle.ring_laws.specs.declared.faults.RingFault.TheVariants.{TooLarge, Memory}
 use Rattle.poly_laws.specs.Lists.{coefficient_at, trimmed, in_front, is_trimmed}
 use Rattle.poly_laws.specs.PolyAlgebra.{every_passes}
-use Rattle.poly_laws.specs.Values.{horner, value_at, level}
+use Rattle.poly_laws.specs.Values.{horner, value_at}
 use Rattle.poly_laws.proofs.Keeps.{of_list, whole_keeps}
 use Rattle.poly_laws.proofs.Trimming.{is_trimmed_trimmed}
 use Rattle.document_text.specs.WellFormed.{IsPolynomial}

@@ -1,7 +1,7 @@
 -- Small signed numbers of 64 bits: what the code computes is what the numbers give.
-use Rattle.std.proofs.Common.{◌≡◌, ◌*◌, ℕ, ◌+◌, ◌<◌, ◌≤◌, ◌^◌, refl, ap, ◌∙◌, arith, w32, w64, to_z, of_z, FitsSigned}
+use Rattle.std.proofs.Common.{◌≡◌, ◌*◌, ℕ, ◌+◌, ◌<◌, ◌≤◌, ◌^◌, ap, ◌∙◌, arith, w32, w64, to_z, of_z, FitsSigned}
 use Rattle.std.proofs.lemmas.Int.{ints, to_z-of_z, fits_signed_from_abs, unsigned_abs-mul}
-use Rattle.std.specs.Prelude.{ℤ, pos, negsuc, ◌+ℤ◌, ◌*ℤ◌, unsigned_abs}
+use Rattle.std.specs.Prelude.{ℤ, ◌+ℤ◌, ◌*ℤ◌, unsigned_abs}
 
 small_fits : (z : ℤ) → unsigned_abs z ≤ 1500000000 → FitsSigned w64 z
 small_fits z h = fits_signed_from_abs w64 z (omega (arith, h))
@@ -44,10 +44,10 @@ pub held_sum : (x y v : ℤ) (i : ℕ) → i < 5 → unsigned_abs x ≤ 1000000 
 held_sum x y v i few small light e =
     let sum : unsigned_abs (x +ℤ v) ≤ 1000000 * (i + 1) = omega (arith, ints, small, light) in
     let whole : to_z w64 (of_z w64 (to_z w64 (of_z w64 x) +ℤ to_z w64 (of_z w64 y))) ≡ x +ℤ v =
-        ap (λ z. to_z w64 (of_z w64 (z +ℤ to_z w64 (of_z w64 y)))) (held x (omega (arith, small, few)))
-        ∙ ap (λ z. to_z w64 (of_z w64 (x +ℤ to_z w64 (of_z w64 z)))) e
-        ∙ ap (λ z. to_z w64 (of_z w64 (x +ℤ z))) (held v (omega (arith, light)))
-        ∙ held (x +ℤ v) (omega (arith, sum, few)) in
+    ap (λ z. to_z w64 (of_z w64 (z +ℤ to_z w64 (of_z w64 y)))) (held x (omega (arith, small, few)))
+    ∙ ap (λ z. to_z w64 (of_z w64 (x +ℤ to_z w64 (of_z w64 z)))) e
+    ∙ ap (λ z. to_z w64 (of_z w64 (x +ℤ z))) (held v (omega (arith, light)))
+    ∙ held (x +ℤ v) (omega (arith, sum, few)) in
     (whole, rw whole sum)
 
 -- a coefficient is read back as it was written

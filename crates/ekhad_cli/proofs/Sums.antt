@@ -1,9 +1,9 @@
 -- Values of lists of coefficients, and the table of antidifferences.
-use Rattle.std.proofs.Common.{◌≡◌, ℕ, zero, suc, ◌+◌, ◌<◌, ◌≤◌, List, [], ◌∷◌, ◌++◌, length, get_or, take, refl, ap, sym, ◌∙◌, arith, subst, add-one}
+use Rattle.std.proofs.Common.{◌≡◌, ℕ, zero, suc, ◌+◌, ◌<◌, List, [], ◌∷◌, length, get_or, take, refl, ap, sym, ◌∙◌, arith, subst, add-one}
 use Rattle.std.proofs.lemmas.Int.{ints}
-use Rattle.std.specs.Prelude.{ℤ, pos, negsuc, ◌+ℤ◌, ◌-ℤ◌, ◌*ℤ◌}
+use Rattle.std.specs.Prelude.{ℤ, pos, negsuc, ◌+ℤ◌, ◌*ℤ◌}
 use Rattle.ring_solver.proofs.Read.{ring_z, reading_z}
-use Rattle.ekhad_cli.specs.Antidifference.{value_of, dot_product, IsDifference}
+use Rattle.ekhad_cli.specs.Antidifference.{dot_product, IsDifference}
 
 dot_suc : (ws xs : List ℤ) (i : ℕ) (w x : ℤ) → i < length ws → i < length xs → w ≡ get_or ws i (pos 0) → x ≡ get_or xs i (pos 0)
     → dot_product (take (suc i) ws) (take (suc i) xs) ≡ dot_product (take i ws) (take i xs) +ℤ w *ℤ x

@@ -132,7 +132,14 @@ fn documents_of_polynomials(rt: HostRuntime) {
 #[test]
 fn other_texts_are_refused(rt: HostRuntime) {
     for text in ["k+k", "k^2+k^3", "0", "1k", "k^5", "01*k", "", " "] {
-        let refused = refuses(&rt, "gosper", text.as_bytes(), Status::Syntax, "ekhad: syntax\n", &WHOLE);
+        let refused = refuses(
+            &rt,
+            "gosper",
+            text.as_bytes(),
+            Status::Syntax,
+            "ekhad: syntax\n",
+            &WHOLE,
+        );
         assert!(rt; refused, "{text}");
     }
     assert!(rt; refuses(&rt, "zeil", b"k", Status::Usage, "ekhad: usage\n", &WHOLE));
@@ -160,7 +167,10 @@ fn a_source_that_fails(rt: HostRuntime) {
             out_fails: &[],
         };
         let line = "ekhad: read fault\n";
-        assert!(rt; refuses(&rt, "gosper", b"k^2", Status::ReadFault, line, &outside), "{piece}");
+        assert!(rt;
+            refuses(&rt, "gosper", b"k^2", Status::ReadFault, line, &outside),
+            "{piece}"
+        );
     }
 }
 
@@ -173,7 +183,10 @@ fn an_output_that_fails(rt: HostRuntime) -> Result<(), AllocError> {
             out_fails: &[0],
         };
         let line = "ekhad: write fault\n";
-        assert!(rt; refuses(&rt, "gosper", b"k^2", Status::WriteFault, line, &outside), "{piece}");
+        assert!(rt;
+            refuses(&rt, "gosper", b"k^2", Status::WriteFault, line, &outside),
+            "{piece}"
+        );
     }
     let outside = Outside {
         piece: 5,
@@ -192,7 +205,16 @@ fn the_most_bytes_of_an_input(rt: HostRuntime) -> Result<(), AllocError> {
     for _ in 0..65_536 {
         text.push(b'k')?;
     }
-    assert!(rt; refuses(&rt, "gosper", &text, Status::Syntax, "ekhad: syntax\n", &WHOLE));
+    assert!(rt;
+        refuses(
+            &rt,
+            "gosper",
+            &text,
+            Status::Syntax,
+            "ekhad: syntax\n",
+            &WHOLE
+        )
+    );
     text.push(b'k')?;
     let line = "ekhad: limit: input bytes 65537\n";
     assert!(rt; refuses(&rt, "gosper", &text, Status::Limit, line, &WHOLE));

@@ -1,5 +1,5 @@
 -- Why a value or a shift of a list is out of bounds where one of its steps is.
-use Rattle.std.proofs.Common.{◌≡◌, ℕ, ◌+◌, ◌<◌, IsTrue, List, [], ◌∷◌, map, length, get_or, drop, sym, ap, ◌∙◌, subst, Result, Ok, Err, Vec, IsErrAnd}
+use Rattle.std.proofs.Common.{◌≡◌, ℕ, ◌+◌, ◌<◌, IsTrue, List, [], ◌∷◌, map, length, get_or, drop, sym, ap, ◌∙◌, subst, Result, Ok, Err, IsErrAnd}
 use Rattle.std.proofs.lemmas.List.{drop-map, drop_more}
 use Rattle.ring_laws.specs.Meaning.{Meaning}
 use Rattle.ring_laws.specs.Algebra.{Algebra, Passing, Laws, SumInBounds, ProductInBounds}
@@ -10,7 +10,7 @@ use Rattle.poly_laws.specs.Evaluation.{list_value, ValueInBounds}
 use Rattle.poly_laws.specs.Lists.{list_sum}
 use Rattle.poly_laws.specs.Shift.{list_shift, ListShiftInBounds}
 use Rattle.poly_laws.proofs.StepMeanings.{ValueStep, value_steps, ShiftStep, shift_steps}
-use Rattle.poly_generic.specs.ListAnswer.{GivesValue, GivesList, GivesListInBounds, RaisingInBounds}
+use Rattle.poly_generic.specs.ListAnswer.{GivesValue, RaisingInBounds}
 use Rattle.poly_generic.proofs.Senses.{meanings-senses}
 
 -- what the exit of a `?` returns

@@ -18,8 +18,9 @@ quotient-requires-clause-divides c =
     let i = c.loop-number.number-index in
     let old = get_or c.args.numbers.now i (pos 0) in
     let next : to_z w64 (of_z w64 (get_or c.loop-number.numbers i (pos 0))) ≡ old =
-        ap (λ z. to_z w64 (of_z w64 z)) (c.loop-number.invariant.to_do i (omega arith)) ∙ held old (c.requires.small i (pos 0) c.loop-number-test.true) in
-    subst (λ (g : ℤ). unsigned_abs g ∣ unsigned_abs (to_z w64 (of_z w64 (get_or c.loop-number.numbers i (pos 0))))) (sym (held c.args.divisor (omega (arith, c.requires.few))))
+    ap (λ z. to_z w64 (of_z w64 z)) (c.loop-number.invariant.to_do i (omega arith)) ∙ held old (c.requires.small i (pos 0) c.loop-number-test.true) in
+    subst (λ (g : ℤ). unsigned_abs g ∣ unsigned_abs (to_z w64 (of_z w64 (get_or c.loop-number.numbers i (pos 0)))))
+    (sym (held c.args.divisor (omega (arith, c.requires.few))))
     (subst (λ (z : ℤ). unsigned_abs c.args.divisor ∣ unsigned_abs z) (sym next) (c.requires.divides i (pos 0) c.loop-number-test.true))
 
 -- one number more
@@ -29,7 +30,7 @@ loop-number-preserved c =
     let old = get_or c.args.numbers.now i (pos 0) in
     let small = c.requires.small i (pos 0) c.loop-number-test.true in
     let next : to_z w64 (of_z w64 (get_or c.loop-number.numbers i (pos 0))) ≡ old =
-        ap (λ z. to_z w64 (of_z w64 z)) (c.loop-number.invariant.to_do i (omega arith)) ∙ held old small in
+    ap (λ z. to_z w64 (of_z w64 z)) (c.loop-number.invariant.to_do i (omega arith)) ∙ held old small in
     let divisor = held c.args.divisor (omega (arith, c.requires.few)) in
     let written = held c.quotient.result (omega (arith, small, c.quotient.ensures.small, ap unsigned_abs next)) in
     subst (λ (g : ℤ). IsDividedTo g c.args.numbers.now (set c.loop-number.numbers i (to_z w64 (of_z w64 c.quotient.result))) (i + 1)) (sym divisor)

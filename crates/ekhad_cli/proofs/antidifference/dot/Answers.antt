@@ -8,7 +8,8 @@ pub overflow_add-sum : goal.overflow_add-sum
 overflow_add-sum c =
     sum_fits (to_z w64 c.loop-place.sum-bits) (get_or c.args.weights.now c.loop-place.place (pos 0)) (get_or c.args.c.now c.loop-place.place (pos 0))
     c.loop-place.place (omega (arith, c.requires.five, c.loop-place-test.true)) c.loop-place.invariant.small
-    (c.requires.light c.loop-place.place (pos 0) c.loop-place-test.true) (c.requires.small c.loop-place.place (pos 0) (omega (arith, c.requires.five, c.requires.as_many, c.loop-place-test.true)))
+    (c.requires.light c.loop-place.place (pos 0) c.loop-place-test.true)
+    (c.requires.small c.loop-place.place (pos 0) (omega (arith, c.requires.five, c.requires.as_many, c.loop-place-test.true)))
 
 -- one product more
 pub loop-place-preserved : goal.loop-place-preserved

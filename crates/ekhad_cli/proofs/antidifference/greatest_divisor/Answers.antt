@@ -1,7 +1,7 @@
-use Rattle.std.proofs.Common.{ℕ, ◌≡◌, ◌↔◌, length, take, get_or, subst, sym, arith}
+use Rattle.std.proofs.Common.{ℕ, ◌≡◌, ◌↔◌, take, subst, arith}
 use Rattle.std.proofs.lemmas.Int.{ints, to_z-of_z}
 use Rattle.std.proofs.lemmas.Grind.{common_steps}
-use Rattle.std.specs.Prelude.{ℤ, pos, List}
+use Rattle.std.specs.Prelude.{ℤ, List}
 use Rattle.std.specs.Int.{◌∣◌}
 use Rattle.ekhad_cli.specs.Antidifference.{DividesAll}
 use Rattle.ekhad_cli.proofs.Divisors.{common_more}

@@ -1,6 +1,6 @@
-use Rattle.std.proofs.Common.{rules, ◌≡◌, ◌<◌, ◌≤◌, length, arith, ap, subst, sym, ◌∙◌, to_z, of_z, w64}
+use Rattle.std.proofs.Common.{rules, ◌≡◌, ◌<◌, length, arith, ap, subst, sym, ◌∙◌, to_z, of_z, w64}
 use Rattle.std.proofs.lemmas.Nat.Gcd.{dvd_refl}
-use Rattle.std.specs.Prelude.{ℤ, pos, unsigned_abs, ◌*ℤ◌}
+use Rattle.std.specs.Prelude.{ℤ, unsigned_abs, ◌*ℤ◌}
 use Rattle.std.specs.Int.{◌∣◌}
 use Rattle.ekhad_cli.specs.Antidifference.{DividesAll, AreQuotients, IsLeastAntidifference}
 use Rattle.ekhad_cli.proofs.Signed.{held}

@@ -1,11 +1,10 @@
-use Rattle.std.proofs.Common.{rules, ◌≡◌, ◌*◌, ◌<◌, ◌≤◌, length, get_or, set, pos, ap, sym, ◌∙◌, arith, to_z, of_z, w64, refl}
-use Rattle.std.proofs.lemmas.Int.{ints}
+use Rattle.std.proofs.Common.{◌≡◌, ◌*◌, ◌<◌, ◌≤◌, length, get_or, set, pos, ap, sym, ◌∙◌, arith}
 use Rattle.std.proofs.lemmas.List.{get_or_default, length-set}
-use Rattle.std.specs.Prelude.{ℤ, ◌+ℤ◌, ◌*ℤ◌, unsigned_abs}
+use Rattle.std.specs.Prelude.{◌+ℤ◌, ◌*ℤ◌, unsigned_abs}
 use lib.IntN.{pow}
 use Rattle.ekhad_cli.specs.Antidifference.{value_of}
 use Rattle.ekhad_cli.proofs.Signed.{held_coefficient, held_sum}
-use Rattle.ekhad_cli.proofs.Monomials.{value_added, one_monomial_more, small_after, lead_kept, first_of, lead_after, first_not_zero}
+use Rattle.ekhad_cli.proofs.Monomials.{value_added, one_monomial_more, small_after, lead_kept, first_of, first_not_zero}
 use Rattle.ekhad_cli.proofs.gosper.coefficients_of.Goals as goal
 
 -- one monomial more
@@ -35,6 +34,8 @@ returns-clause-small c = λ j d h. omega (arith, c.loop-monomial.invariant.small
 
 -- the coefficient of the first monomial
 pub returns-clause-some : goal.returns-clause-some
-returns-clause-some c =
-    ((first_of c.args.monomials.now).power, λ e. first_not_zero c.args.monomials.now c.loop-monomial.monomial-index c.requires.powers
-    (omega (arith, c.requires.powers.some, c.loop-monomial-test.false)) (sym c.loop-monomial.invariant.lead ∙ e))
+returns-clause-some c = (
+  (first_of c.args.monomials.now).power,
+  λ e. first_not_zero c.args.monomials.now c.loop-monomial.monomial-index c.requires.powers
+      (omega (arith, c.requires.powers.some, c.loop-monomial-test.false)) (sym c.loop-monomial.invariant.lead ∙ e),
+)

@@ -1,5 +1,5 @@
-use Rattle.std.proofs.Common.{rules, ◌≡◌, ◌≤◌, length, ap, sym, ◌∙◌, arith, subst, pos}
-use Rattle.std.specs.Prelude.{ℤ, unsigned_abs}
+use Rattle.std.proofs.Common.{rules, ◌≤◌, length, ap, sym, ◌∙◌, arith, subst}
+use Rattle.std.specs.Prelude.{ℤ}
 use Rattle.ring_laws.specs.Meaning.{items}
 use Rattle.ekhad_cli.specs.Antidifference.{IsLeastAntidifference}
 use Rattle.ekhad_cli.proofs.Signed.{held}
@@ -24,6 +24,7 @@ pub returns-clause-not_zero : goal.returns-clause-not_zero
 returns-clause-not_zero c =
     let cs = c.term_of-scale.result.0 in
     let scale = c.whole.ensures ∙ held c.term_of-scale.result.1 (omega (arith, c.term_of-scale.ensures.scale_small)) in
-    let some = c.term_of-scale.ensures.some in
-    ((λ e. c.term_of-scale.ensures.scale_not_zero (sym scale ∙ e)),
-    (λ e. some_item cs some.0 some.1 (ap items (sym c.in_ok-poly_of.ensures.meaning) ∙ e)))
+    let some = c.term_of-scale.ensures.some in (
+      (λ e. c.term_of-scale.ensures.scale_not_zero (sym scale ∙ e)),
+      (λ e. some_item cs some.0 some.1 (ap items (sym c.in_ok-poly_of.ensures.meaning) ∙ e)),
+    )

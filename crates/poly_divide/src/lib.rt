@@ -1,0 +1,15 @@
+//! Exact division of polynomials by linear forms, and the greatest common divisor of all coefficients.
+//!
+//! Input: polynomials in n, or in k over these. Output: the quotient by a linear form, or none; the content of a row.
+//! What a form means is in `specs/Forms.antt`, and what a content is in `specs/Content.antt`.
+//! Read `forms.rt` (the divisions), then `content.rt`.
+#![tactic(auto)]
+
+mod content;
+mod forms;
+
+pub use content::whole_content;
+pub use forms::{divide_by_form, divide_by_linear};
+
+#[cfg(test)]
+mod tests;
