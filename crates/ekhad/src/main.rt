@@ -5,6 +5,7 @@ use ek_io::{StdSink, StdSource};
 use ekhad_cli::{Status, refuse, run};
 use std::alloc::{AllocError, Global};
 use std::env;
+use std::io::ErrorKind;
 use std::process::ExitCode;
 use std::rt::Env;
 
@@ -12,6 +13,7 @@ use std::rt::Env;
 fn words(rt: &(impl Env + AllocGlobal)) -> Result<Vec<String>, AllocError> {
     match env::args(rt) {
         Ok(args) => args.skip(1).collect(rt.alloc()),
+        Err(fault) if matches!(fault.kind(), ErrorKind::OutOfMemory) => Err(AllocError),
         Err(_) => Ok(Vec::new(rt.alloc())),
     }
 }
