@@ -21,7 +21,10 @@ product_held w x h k =
     ∙ held (w *ℤ x) (omega (arith, product_small w x h k))
 
 -- one product more: it fits, it is the sum, and it is small
-module _ (s w x : ℤ) (i : ℕ) (within : i < 5) (so_far : unsigned_abs s ≤ 300000000 * i) (light : unsigned_abs w ≤ 60) (small : unsigned_abs x ≤ 5000000) where
+module _
+    (s w x : ℤ) (i : ℕ) (within : i < 5) (so_far : unsigned_abs s ≤ 300000000 * i)
+    (light : unsigned_abs w ≤ 60) (small : unsigned_abs x ≤ 5000000)
+    where
   abbrev added : ℤ
   added = to_z w64 (of_z w64 (to_z w64 (of_z w64 w) *ℤ to_z w64 (of_z w64 x)))
 

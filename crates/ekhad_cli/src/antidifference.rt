@@ -30,7 +30,7 @@ const DENOMINATOR: i64 = 60;
 fn dot(weights: &[i64], c: &[i64]) -> i64
     requires five { length weights.now ≡ 5 }
     requires as_many { length c.now ≡ 5 }
-    requires light { All (λ w. unsigned_abs w ≤ 60) weights.now }
+    requires small_weights { All (λ w. unsigned_abs w ≤ 60) weights.now }
     requires small { All (λ x. unsigned_abs x ≤ 5000000) c.now }
     ensures value { result ≡ dot_product weights.now c.now }
     ensures small { unsigned_abs result ≤ 1500000000 }
