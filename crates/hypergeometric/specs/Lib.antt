@@ -1,5 +1,6 @@
 pub mod Fraction
 pub mod LinearForm
+pub mod FormOrder
 pub mod ProperTerm
 pub mod Tree
 pub mod TreePolynomial
