@@ -1,1 +1,5 @@
 pub mod Forms
+pub mod FactorLists
+pub mod Products
+pub mod ListOf
+pub mod OneProof

@@ -1,0 +1,98 @@
+//! Products of forms with their powers.
+
+ghost use Rattle.hypergeometric.specs.FormOrder.{AreFactors};
+ghost use Rattle.lin_form.specs.FactorLists.{factors_of};
+ghost use Rattle.lin_form.specs.OneProof.{factors_once};
+
+use crate::forms::LinForm;
+use crate::products::{polynomial_of, times_power};
+use indexmap::IndexMap;
+use poly_generic::Znk;
+use ring_laws::{Ring, RingFault, Whole};
+use std::alloc::Global;
+
+/// A scale times a product of forms, each with a power of at least 1, in the order in which they came.
+///
+/// It keeps its own allocator.
+#[derive(Drop)]
+pub struct FactorList {
+    scale: Whole,
+    powers: IndexMap<LinForm, u32>,
+    ghost factors: { AreFactors (factors_of powers.entries) } by { factors_once (factors_of powers.entries) },
+}
+
+impl FactorList {
+    ghost use Rattle.std.specs.Prelude.{◌≡◌, ℕ, ◌+◌, ◌*◌, ◌≤◌, ◌<◌, ◌^◌, ℤ, pos, ◌*ℤ◌, unsigned_abs, [], length, slice_get, drop, IfOk, IfErr, OnOk, OnErr, MatchOption, MatchResult, Some, None};
+    ghost use Rattle.std.specs.List.Sorted.{IsPermutation};
+    ghost use Rattle.ring_laws.specs.Answer.{GivesInBounds};
+    ghost use Rattle.ring_laws.specs.declared.faults.RingFault.TheVariants.{TooLarge, Memory};
+    ghost use Rattle.poly_laws.specs.Values.{level};
+    ghost use Rattle.hypergeometric.specs.LinearForm.{Factor, forms_value, factor_list_value};
+    ghost use Rattle.hypergeometric.specs.FormOrder.{AreFactors, IsSorted};
+    ghost use Rattle.hypergeometric.specs.ProperTerm.{poly_value};
+    ghost use Rattle.lin_form.specs.Forms.{form_of};
+    ghost use Rattle.lin_form.specs.FactorLists.{factor_with, power_of, with_factor};
+    ghost use Rattle.lin_form.specs.ListOf.{list_of};
+
+    /// The list of scale 1 and no form. It takes memory only later.
+    pub fn new(alloc: Global) -> Result<FactorList, RingFault>
+        ensures scale { IfOk result (λ list. (list_of list).scale ≡ pos 1) }
+        ensures factors { IfOk result (λ list. (list_of list).factors ≡ []) }
+        ensures memory { IfErr result (λ fault. fault ≡ Memory) }
+    {
+        Ok(FactorList {
+            scale: Whole::one(alloc)?,
+            powers: IndexMap::new(alloc),
+        })
+    }
+
+    /// The scale.
+    pub fn scale(&self) -> Whole
+        ensures scale { result.value ≡ (list_of self.now).scale }
+    {
+        self.scale
+    }
+
+    /// How many forms the list has.
+    pub fn len(&self) -> usize
+        ensures count { result ≡ length (list_of self.now).factors }
+        ensures factors { AreFactors (list_of self.now).factors }
+    {
+        self.powers.len()
+    }
+
+    /// The form at an index with its power, `None` exactly past the list.
+    pub fn item(&self, index: usize) -> Option<(LinForm, u32)>
+        ensures item { MatchOption result (slice_get (list_of self.now).factors index ≡ None)
+            (λ item. slice_get (list_of self.now).factors index ≡ Some (factor_with (form_of item.0) item.1)) }
+    {
+        let (form, power) = self.powers.get_index(index)?;
+        Some((*form, *power))
+    }
+
+    /// The power of the form, and 0 for a form that isn't there.
+    pub fn power(&self, form: &LinForm) -> u32
+        ensures power { result ≡ power_of (form_of form.now) (list_of self.now).factors }
+    {
+        match self.powers.get(form) {
+            Some(power) => *power,
+            None => 0,
+        }
+    }
+
+    /// Multiplies by a form as often as the power says: adds to the power of a form that is there, and puts a new form last.
+    ///
+    /// `Memory` is the only fault, and leaves the list as it was.
+    pub fn multiply(&mut self, form: LinForm, power: u32) -> Result<(), RingFault>
+        requires some { 1 ≤ power }
+        requires fits { power_of (form_of form) (list_of self.old).factors + power < 2 ^ 32 }
+        ensures factors { OnOk result ((list_of self.new).factors ≡ with_factor (form_of form) power (list_of self.old).factors) }
+        ensures scale { (list_of self.new).scale ≡ (list_of self.old).scale }
+        ensures err { OnErr result (list_of self.new ≡ list_of self.old) }
+        ensures memory { IfErr result (λ fault. fault ≡ Memory) }
+    {
+        let power = self.power(&form) + power;
+        self.powers.insert(form, power)?;
+        Ok(())
+    }
+}
