@@ -5,3 +5,7 @@ pub mod Rings
 pub mod Powers
 pub mod Bounds
 pub mod Lookups
+pub mod Squaring
+pub mod ListProducts
+pub mod Items
+pub mod SortedLists

@@ -24,7 +24,7 @@ pub struct FactorList {
 impl FactorList {
     ghost use Rattle.std.specs.Prelude.{◌≡◌, ℕ, ◌+◌, ◌*◌, ◌≤◌, ◌<◌, ◌^◌, ℤ, pos, ◌*ℤ◌, unsigned_abs, [], length, slice_get, drop, IfOk, IfErr, OnOk, OnErr, MatchOption, MatchResult, Some, None};
     ghost use Rattle.std.specs.List.Sorted.{IsPermutation};
-    ghost use Rattle.ring_laws.specs.Answer.{GivesInBounds};
+    ghost use Rattle.ring_laws.specs.Answer.{OnFault};
     ghost use Rattle.ring_laws.specs.declared.faults.RingFault.TheVariants.{TooLarge, Memory};
     ghost use Rattle.poly_laws.specs.Values.{level};
     ghost use Rattle.hypergeometric.specs.LinearForm.{Factor, forms_value, factor_list_value};
@@ -33,6 +33,7 @@ impl FactorList {
     ghost use Rattle.lin_form.specs.Forms.{form_of};
     ghost use Rattle.lin_form.specs.FactorLists.{factor_with, power_of, with_factor};
     ghost use Rattle.lin_form.specs.ListOf.{list_of};
+    ghost use Rattle.lin_form.specs.Products.{power_in, nonzero_magnitude, form_polynomial, list_polynomial, ListInBounds, GivesTimes};
 
     /// The list of scale 1 and no form. It takes memory only later.
     pub fn new(alloc: Global) -> Result<FactorList, RingFault>
@@ -94,5 +95,72 @@ impl FactorList {
         let power = self.power(&form) + power;
         self.powers.insert(form, power)?;
         Ok(())
+    }
+
+    /// Multiplies the scale. `TooLarge` comes exactly where the product of the magnitudes reaches 2^127, and leaves the list as
+    /// it was. It takes no memory.
+    pub fn multiply_scale(&mut self, by: Whole) -> Result<(), RingFault>
+        ensures scale { OnOk result ((list_of self.new).scale ≡ (list_of self.old).scale *ℤ by.value) }
+        ensures in_bounds { OnOk result (unsigned_abs (list_of self.old).scale * unsigned_abs by.value < 2 ^ 127) }
+        ensures factors { (list_of self.new).factors ≡ (list_of self.old).factors }
+        ensures too_large { IfErr result (λ fault. (fault ≡ TooLarge) × ¬ (unsigned_abs (list_of self.old).scale * unsigned_abs by.value < 2 ^ 127)) }
+        ensures err { OnErr result (list_of self.new ≡ list_of self.old) }
+    {
+        let alloc = *self.powers.allocator();
+        self.scale = self.scale.mul(alloc, &by)?;
+        Ok(())
+    }
+
+    /// The same scale and the same forms with their powers, in rising order: by k slope, then n slope, then offset.
+    ///
+    /// `Memory` is the only fault.
+    pub fn sorted(&self) -> Result<FactorList, RingFault>
+        ensures scale { IfOk result (λ list. (list_of list).scale ≡ (list_of self.now).scale) }
+        ensures sorted { IfOk result (λ list. IsSorted (list_of list).factors) }
+        ensures same { IfOk result (λ list. IsPermutation (list_of self.now).factors (list_of list).factors) }
+        ensures memory { IfErr result (λ fault. fault ≡ Memory) }
+    {
+        let Ok(mut powers) = self.powers.clone() else {
+            return Err(RingFault::Memory);
+        };
+        if powers.sort_keys().is_err() {
+            return Err(RingFault::Memory);
+        }
+        Ok(FactorList {
+            scale: self.scale,
+            powers,
+        })
+    }
+
+    /// The polynomial that the list is: the scale times the product of the forms, by their powers.
+    ///
+    /// `TooLarge` comes only where the product of all factors, as one operation, is out of bounds: where the product of the
+    /// magnitudes of those that aren't zero has a number of 2^127 or more, or more than 256 coefficients.
+    pub fn to_poly(&self, alloc: Global) -> Result<Znk, RingFault>
+        ensures polynomial { IfOk result (λ poly. ⟦<Znk as Ring>⟧.meaning poly ≡ list_polynomial (list_of self.now)) }
+        ensures value { IfOk result (λ poly. (n k : ℤ) → poly_value (⟦<Znk as Ring>⟧.meaning poly) n k ≡ factor_list_value (list_of self.now) n k) }
+        ensures too_large { IfErr result (OnFault (¬ ListInBounds (list_of self.now))) }
+    {
+        let mut product = Znk::whole(alloc, self.scale)?;
+        for index in 0..self.len() {
+            product = self.times_item(alloc, product, index)?;
+        }
+        Ok(product)
+    }
+
+    // The product times the form at an index, as often as its power says.
+    fn times_item(&self, alloc: Global, product: Znk, index: usize) -> Result<Znk, RingFault>
+        requires in_range { index < length (list_of self.now).factors }
+        ensures gives { (x : Factor) → slice_get (list_of self.now).factors index ≡ Some x → GivesTimes ⟦<Znk as Ring>⟧.meaning (level 2)
+            (⟦<Znk as Ring>⟧.meaning product) (power_in (level 2).ops (form_polynomial x.form) x.power)
+            (power_in (level 2).ops (nonzero_magnitude (level 2).ops (form_polynomial x.form)) x.power) result }
+    {
+        match self.item(index) {
+            Some((form, power)) => {
+                let base = polynomial_of(alloc, form)?;
+                times_power(alloc, product, base, power)
+            }
+            None => Ok(product),
+        }
     }
 }

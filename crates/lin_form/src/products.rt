@@ -1,6 +1,6 @@
 //! A form as a polynomial, and a polynomial times a power of another.
 
-ghost use Rattle.std.specs.Prelude.{◌≡◌, ◌≤◌, ◌<◌, ◌^◌, unsigned_abs};
+ghost use Rattle.std.specs.Prelude.{◌≡◌, ◌≢◌, ◌≤◌, ◌<◌, ◌^◌, unsigned_abs};
 ghost use Rattle.ring_laws.specs.Answer.{Gives};
 ghost use Rattle.poly_laws.specs.Values.{level};
 ghost use Rattle.lin_form.specs.Forms.{form_of};
@@ -34,10 +34,15 @@ pub fn polynomial_of(alloc: Global, form: LinForm) -> Result<Znk, RingFault>
 }
 
 // The product times the base as often as the power says, by squares of the base.
-pub fn times_power(alloc: Global, product: Znk, base: Znk, power: u32) -> Result<Znk, RingFault>
-    ensures gives { GivesTimes ⟦<Znk as Ring>⟧.meaning (level 2) (⟦<Znk as Ring>⟧.meaning product)
-        (power_in (level 2).ops (⟦<Znk as Ring>⟧.meaning base) power)
-        (power_in (level 2).ops (nonzero_magnitude (level 2).ops (⟦<Znk as Ring>⟧.meaning base)) power) result }
+pub fn times_power<R: Ring>(
+    alloc: Global,
+    product: R,
+    base: R,
+    power: u32,
+) -> Result<R, RingFault>
+    requires distinct { R.algebra.ops.unit ≢ R.algebra.ops.nought }
+    ensures gives { GivesTimes R.meaning R.algebra (R.meaning product) (power_in R.algebra.ops (R.meaning base) power)
+        (power_in R.algebra.ops (nonzero_magnitude R.algebra.ops (R.meaning base)) power) result }
 {
     let mut product = product;
     let mut square = base;
