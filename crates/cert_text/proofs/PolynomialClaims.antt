@@ -15,7 +15,8 @@ use Rattle.hypergeometric.specs.PlainTerm.{plain_term, plain_claim, unit_list}
 use Rattle.hypergeometric.specs.Telescopes.{Telescopes}
 use Rattle.hypergeometric.proofs.FractionLaws.{one_not_zero}
 use Rattle.hypergeometric.proofs.PlainTerms.{plain_telescopes}
-use Rattle.document_text.specs.WellFormed.{IsNumber, IsPolynomial, IsLowest, AreFactors, ArePrimitiveFactors, IsFactorList, IsProper, IsPlain, IsCarrier, IsFound, IsWellFormed}
+use Rattle.hypergeometric.specs.FormOrder.{AreFactors}
+use Rattle.document_text.specs.WellFormed.{IsNumber, IsPolynomial, IsLowest, ArePrimitiveFactors, IsFactorList, IsProper, IsPlain, IsCarrier, IsFound, IsWellFormed}
 use Rattle.cert_text.specs.PolynomialDocument.{in_k, polynomial_document}
 use Rattle.cert_text.proofs.LiftedPolynomials.{in_k_value, in_k_polynomial, in_k_not_zero, constant_polynomial}
 

@@ -8,7 +8,8 @@ use Rattle.ring_laws.specs.Meaning.{Meaning, number, listed}
 use Rattle.ring_laws.specs.Wholes.{number_of}
 use Rattle.poly_laws.specs.Values.{level}
 use Rattle.hypergeometric.specs.Fraction.{of_whole}
-use Rattle.document_text.specs.WellFormed.{IsPolynomial, IsLowest, AreFactors, ArePrimitiveFactors, IsFactorList, IsProper, IsWellFormed}
+use Rattle.hypergeometric.specs.FormOrder.{AreFactors}
+use Rattle.document_text.specs.WellFormed.{IsPolynomial, IsLowest, ArePrimitiveFactors, IsFactorList, IsProper, IsWellFormed}
 use Rattle.document_text.proofs.KnownDocuments.{squares, plain, unit_list, c, nought}
 
 -- what each item and the default keep, each coefficient keeps

@@ -6,7 +6,8 @@ use Rattle.std.proofs.Common.{refl, ap, sym, ◌∙◌, append_assoc}
 use Rattle.document_text.specs.Spelling.{polynomial_text}
 use Rattle.document_text.specs.TermText.{factors_text, factor_list_text, proper_term_text}
 use Rattle.document_text.specs.Document.{line, range_text}
-use Rattle.document_text.specs.WellFormed.{IsFactor, IsFactorList, IsProper, IsPolynomial, IsMatch, IsRange}
+use Rattle.hypergeometric.specs.FormOrder.{IsFactor}
+use Rattle.document_text.specs.WellFormed.{IsFactorList, IsProper, IsPolynomial, IsMatch, IsRange}
 use Rattle.document_text.proofs.Cutting.{among}
 use Rattle.document_text.proofs.Numerals.{digit_bytes, only_decimal, decimal_determines}
 use Rattle.document_text.proofs.MonomialBytes.{polynomial_bytes}

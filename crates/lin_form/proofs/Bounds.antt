@@ -48,7 +48,7 @@ module _ (a : Algebra) (l : Laws a) (distinct : ¬ (a.ops.unit ≡ a.ops.nought)
       let eb = own b x h in
       let ec = own c y k in
       let whole : o.magnitude (o.product b c) ≡ o.product b c =
-          ap o.magnitude (sym (λ i. o.product (eb i) (ec i))) ∙ l.magnitudes.of_product b c ∙ (λ i. o.product (eb i) (ec i)) in
+      ap o.magnitude (sym (λ i. o.product (eb i) (ec i))) ∙ l.magnitudes.of_product b c ∙ (λ i. o.product (eb i) (ec i)) in
       record {
         covers = l.magnitudes.covers_trans (o.product b c) (o.product (o.magnitude x) (o.magnitude y)) (o.magnitude (o.product x y)) (covers_both b x c y h k)
             (l.magnitudes.product_covers x y);

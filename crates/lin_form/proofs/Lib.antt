@@ -9,3 +9,4 @@ pub mod Squaring
 pub mod ListProducts
 pub mod Items
 pub mod SortedLists
+mod KnownForms

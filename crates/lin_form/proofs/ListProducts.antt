@@ -151,13 +151,13 @@ module _ (l : FactorList) (m : Meaning) (i : ℕ) (x : Factor) (here : slice_get
   list_fault fault h =
       fault_weaker fault
       (λ out fits.
-          let whole : (level 2).ops.Fits (o.product r.bound (counterpart_in (x ∷ rest))).0 = subst (level 2).ops.Fits (sym (ap ((level 2).ops.product r.bound.0)
-              (counterpart_first (x ∷ rest) ∙ sym (ap forms_counterpart (from_index l.factors i x here))) ∙ r.counterpart)) fits in
-          let parted : o.Fits (o.product (o.product r.bound (bound_in x)) (counterpart_in rest)) =
-              subst o.Fits (sym (laws.ring.product_assoc r.bound (bound_in x) (counterpart_in rest))) whole in
-          out r.bound r.bounds (subst (λ t. (level 2).ops.Fits ((level 2).ops.product r.bound.0 t)) (bound_first x)
-          (part_fits (level 2) laws more_than_one (o.product r.bound (bound_in x)) (o.product now (factor_in x)) (counterpart_in rest) (forms_in rest)
-          (bounded_product (level 2) laws more_than_one r.bound now (bound_in x) (factor_in x) r.bounds (factor_bounded x)) (counterpart_bounded rest) parted)))
+      let whole : (level 2).ops.Fits (o.product r.bound (counterpart_in (x ∷ rest))).0 = subst (level 2).ops.Fits (sym (ap ((level 2).ops.product r.bound.0)
+      (counterpart_first (x ∷ rest) ∙ sym (ap forms_counterpart (from_index l.factors i x here))) ∙ r.counterpart)) fits in
+      let parted : o.Fits (o.product (o.product r.bound (bound_in x)) (counterpart_in rest)) =
+      subst o.Fits (sym (laws.ring.product_assoc r.bound (bound_in x) (counterpart_in rest))) whole in
+      out r.bound r.bounds (subst (λ t. (level 2).ops.Fits ((level 2).ops.product r.bound.0 t)) (bound_first x)
+      (part_fits (level 2) laws more_than_one (o.product r.bound (bound_in x)) (o.product now (factor_in x)) (counterpart_in rest) (forms_in rest)
+      (bounded_product (level 2) laws more_than_one r.bound now (bound_in x) (factor_in x) r.bounds (factor_bounded x)) (counterpart_bounded rest) parted)))
       h
 
 -- past the last factor, the whole is reached

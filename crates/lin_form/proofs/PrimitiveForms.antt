@@ -97,7 +97,7 @@ pub no_divisor_left : (f g : LinearForm) (e : ℤ) → AreQuotients f g e → 0 
     → (d : ℕ) → d ∣ unsigned_abs g.k_slope → d ∣ unsigned_abs g.n_slope → d ∣ unsigned_abs g.offset → d ≡ 1
 no_divisor_left f g e q some greatest d a b c =
     let all : unsigned_abs e * d ∣ unsigned_abs e = greatest.greatest (unsigned_abs e * d) (times_divides e g.k_slope f.k_slope d q.k_slope a)
-        (times_divides e g.n_slope f.n_slope d q.n_slope b) (times_divides e g.offset f.offset d q.offset c) in
+    (times_divides e g.n_slope f.n_slope d q.n_slope b) (times_divides e g.offset f.offset d q.offset c) in
     dvd_antisymm (dvd_of_mul-dvd-mul_left d some (subst (λ n. unsigned_abs e * d ∣ n) (omega arith) all)) (one-dvd d)
 
 -- a common divisor of numbers that aren't all 0 is no greater than the one that isn't

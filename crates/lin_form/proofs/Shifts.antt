@@ -52,13 +52,13 @@ matched_offset f g h m =
 pub matched_n_slope : (f g : LinearForm) (h : ℕ) → IsMatchAt f g h → f.n_slope ≡ g.n_slope
 matched_n_slope f g h m =
     let e : f.n_slope +ℤ f.offset ≡ g.n_slope +ℤ (g.offset +ℤ g.k_slope *ℤ pos h) = sym (at_one_n f.n_slope f.k_slope f.offset)
-        ∙ m (pos 1) (pos 0) ∙ later_one_n g.n_slope g.k_slope g.offset (pos h) in
+    ∙ m (pos 1) (pos 0) ∙ later_one_n g.n_slope g.k_slope g.offset (pos h) in
     omega (arith, ints, e, matched_offset f g h m)
 
 pub matched_k_slope : (f g : LinearForm) (h : ℕ) → IsMatchAt f g h → f.k_slope ≡ g.k_slope
 matched_k_slope f g h m =
     let e : f.k_slope +ℤ f.offset ≡ g.k_slope +ℤ (g.offset +ℤ g.k_slope *ℤ pos h) = sym (at_one_k f.n_slope f.k_slope f.offset)
-        ∙ m (pos 0) (pos 1) ∙ later_one_k g.n_slope g.k_slope g.offset (pos h) in
+    ∙ m (pos 0) (pos 1) ∙ later_one_k g.n_slope g.k_slope g.offset (pos h) in
     omega (arith, ints, e, matched_offset f g h m)
 
 -- of two forms with the same slopes, the quotient of the difference of their offsets by the k slope is the shift
@@ -67,8 +67,8 @@ pub match_by : (f g : LinearForm) (slope apart : ℤ) (r : Option ℕ) → Match
     → MatchOption r ((h : ℕ) → ¬ IsMatchAt f g h) (λ h. IsMatchAt f g h)
 match_by f g slope apart None q n k s a =
     λ h m.
-        let e : slope *ℤ pos h ≡ g.k_slope *ℤ pos h = ap (λ (z : ℤ). z *ℤ pos h) s in
-        q h (omega (arith, ints, e, a, matched_offset f g h m))
+    let e : slope *ℤ pos h ≡ g.k_slope *ℤ pos h = ap (λ (z : ℤ). z *ℤ pos h) s in
+    q h (omega (arith, ints, e, a, matched_offset f g h m))
 match_by f g slope apart (Some h) q n k s a =
     let e : slope *ℤ pos h ≡ g.k_slope *ℤ pos h = ap (λ (z : ℤ). z *ℤ pos h) s in
     matching f g h n k (omega (arith, ints, e, a, q))

@@ -80,10 +80,10 @@ module _ (eq : LinForm → LinForm → Bool) (agrees : (x y : LinForm) → eq x 
   sorted_factors cmp orders (e ∷ []) s d = (tt, tt)
   sorted_factors cmp orders (e ∷ e' ∷ es) s d =
       let rest = sorted_factors cmp orders (e' ∷ es) (λ k x a b. simp add-one (simp add-one at s (suc k) x (omega arith) (omega (arith, b))))
-          (IsDistinct-tail eq e.0 (keys_of (e' ∷ es)) d) in
+      (IsDistinct-tail eq e.0 (keys_of (e' ∷ es)) d) in
       let next : IsBefore (form_of e.0) (form_of e'.0) =
-          comes_before (form_of e.0) (form_of e'.0) (other_form e.0 e'.0 (IsDistinct-head eq e.0 (keys_of (e' ∷ es)) d).0)
-          (ap is_lt (sym (orders e'.0 e.0)) ∙ s 0 e.0 (omega arith) (omega arith)) in
+      comes_before (form_of e.0) (form_of e'.0) (other_form e.0 e'.0 (IsDistinct-head eq e.0 (keys_of (e' ∷ es)) d).0)
+      (ap is_lt (sym (orders e'.0 e.0)) ∙ s 0 e.0 (omega arith) (omega arith)) in
       ((next, all_after (form_of e.0) (form_of e'.0) next (factors_of es) rest.0), rest)
 
   none_same : (x : LinForm) (es : List (LinForm × ℕ)) → AllByRecursion (λ y. eq x y ≡ false) (keys_of es)

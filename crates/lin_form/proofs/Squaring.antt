@@ -63,14 +63,14 @@ module _ (a : Algebra) (l : Laws a) where
     product = odd_of x y n ∙ r.product;
     parts =
         λ bound h.
-            let p = r.parts bound h in
-            record {
-              of_product = o.product p.of_product p.of_square;
-              of_square = p.of_square;
-              bounds_product = bounded_product a l different p.of_product x p.of_square y p.bounds_product p.bounds_square;
-              bounds_square = p.bounds_square;
-              whole_is = odd_of p.of_product p.of_square n ∙ p.whole_is;
-            };
+        let p = r.parts bound h in
+        record {
+          of_product = o.product p.of_product p.of_square;
+          of_square = p.of_square;
+          bounds_product = bounded_product a l different p.of_product x p.of_square y p.bounds_product p.bounds_square;
+          bounds_square = p.bounds_square;
+          whole_is = odd_of p.of_product p.of_square n ∙ p.whole_is;
+        };
   }
 
   -- the square takes half the powers
@@ -80,14 +80,14 @@ module _ (a : Algebra) (l : Laws a) where
     product = ap (a.ops.product m) (square_of y n) ∙ r.product;
     parts =
         λ bound h.
-            let p = r.parts bound h in
-            record {
-              of_product = p.of_product;
-              of_square = o.product p.of_square p.of_square;
-              bounds_product = p.bounds_product;
-              bounds_square = bounded_product a l different p.of_square y p.of_square y p.bounds_square p.bounds_square;
-              whole_is = ap (a.ops.product p.of_product.0) (square_of p.of_square n) ∙ p.whole_is;
-            };
+        let p = r.parts bound h in
+        record {
+          of_product = p.of_product;
+          of_square = o.product p.of_square p.of_square;
+          bounds_product = p.bounds_product;
+          bounds_square = bounded_product a l different p.of_square y p.of_square y p.bounds_square p.bounds_square;
+          whole_is = ap (a.ops.product p.of_product.0) (square_of p.of_square n) ∙ p.whole_is;
+        };
   }
 
   pub start_reached : (m0 : Meaning) (y : Passing a) (power : ℕ) (different : a.ops.unit ≢ a.ops.nought) → Reached a m0 y.0 power m0 y.0 power
@@ -110,9 +110,9 @@ module _ (a : Algebra) (l : Laws a) where
   odd_refused m0 b0 power x y n different r out bound h fits =
       let p = r.parts bound h in
       let e : o.product p.of_product (power_in o p.of_square (suc n)) ≡ o.product (o.product p.of_product p.of_square) (power_in o p.of_square n) =
-          sym (odd_step o l.ring p.of_product p.of_square n) in
+      sym (odd_step o l.ring p.of_product p.of_square n) in
       let whole : a.ops.Fits (o.product p.of_product (power_in o p.of_square (suc n))).0 =
-          subst a.ops.Fits (sym p.whole_is ∙ ap (a.ops.product p.of_product.0) (sym (power_first p.of_square (suc n)))) fits in
+      subst a.ops.Fits (sym p.whole_is ∙ ap (a.ops.product p.of_product.0) (sym (power_first p.of_square (suc n)))) fits in
       out (in_bounds a l different p.of_product x p.of_square y p.bounds_product p.bounds_square
       (part_fits a l different (o.product p.of_product p.of_square) (o.product x y) (power_in o p.of_square n) (power_in o y n)
       (bounded_product a l different p.of_product x p.of_square y p.bounds_product p.bounds_square)
@@ -125,9 +125,9 @@ module _ (a : Algebra) (l : Laws a) where
       let p = r.parts bound h in
       let s = o.product p.of_square p.of_square in
       let e : o.product p.of_product (power_in o p.of_square (suc n + suc n)) ≡ o.product s (o.product p.of_product (power_in o s n)) =
-          ap (o.product p.of_product) (sym (power_square o l.ring p.of_square (suc n))) ∙ squared_first o l.ring p.of_product s (power_in o s n) in
+      ap (o.product p.of_product) (sym (power_square o l.ring p.of_square (suc n))) ∙ squared_first o l.ring p.of_product s (power_in o s n) in
       let whole : a.ops.Fits (o.product p.of_product (power_in o p.of_square (suc n + suc n))).0 =
-          subst a.ops.Fits (sym p.whole_is ∙ ap (a.ops.product p.of_product.0) (sym (power_first p.of_square (suc n + suc n)))) fits in
+      subst a.ops.Fits (sym p.whole_is ∙ ap (a.ops.product p.of_product.0) (sym (power_first p.of_square (suc n + suc n)))) fits in
       let squares = bounded_product a l different p.of_square y p.of_square y p.bounds_square p.bounds_square in
       out (in_bounds a l different p.of_square y p.of_square y p.bounds_square p.bounds_square
       (part_fits a l different s (o.product y y) (o.product p.of_product (power_in o s n)) (o.product x (power_in o (o.product y y) n)) squares

@@ -9,6 +9,8 @@
 mod factor_lists;
 mod forms;
 mod products;
+#[cfg(test)]
+mod tests;
 
 pub use factor_lists::FactorList;
 pub use forms::LinForm;

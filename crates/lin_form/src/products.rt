@@ -34,12 +34,7 @@ pub fn polynomial_of(alloc: Global, form: LinForm) -> Result<Znk, RingFault>
 }
 
 // The product times the base as often as the power says, by squares of the base.
-pub fn times_power<R: Ring>(
-    alloc: Global,
-    product: R,
-    base: R,
-    power: u32,
-) -> Result<R, RingFault>
+pub fn times_power<R: Ring>(alloc: Global, product: R, base: R, power: u32) -> Result<R, RingFault>
     requires distinct { R.algebra.ops.unit ≢ R.algebra.ops.nought }
     ensures gives { GivesTimes R.meaning R.algebra (R.meaning product) (power_in R.algebra.ops (R.meaning base) power)
         (power_in R.algebra.ops (nonzero_magnitude R.algebra.ops (R.meaning base)) power) result }

@@ -13,8 +13,8 @@ returns-then-self-other c = record {
       let k = matched_k_slope (form_of c.args.self.now) (form_of c.args.other.now) h m in
       let n = matched_n_slope (form_of c.args.self.now) (form_of c.args.other.now) h m in
       elim c.then-self-other.branch [
-        then-self-other-via-then-self-other w ↦ omega (arith, ints, k)
-      | then-self-other-via-else-self-other+then-self-other-2 w ↦ omega (arith, ints, n)
+        | then-self-other-via-then-self-other w ↦ omega (arith, ints, k)
+        | then-self-other-via-else-self-other+then-self-other-2 w ↦ omega (arith, ints, n)
       ];
 }
 

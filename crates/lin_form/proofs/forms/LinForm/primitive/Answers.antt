@@ -10,22 +10,22 @@ use Rattle.lin_form.proofs.forms.LinForm.primitive.Goals.{then-is_positive_first
 pub exact_quotient-requires-clause-divides : goal.exact_quotient-requires-clause-divides
 exact_quotient-requires-clause-divides c =
     elim c.if-is_positive_first.branch [
-      then-is_positive_first w ↦ divides_by _ _ _ _ (omega (arith, ints, w.factor-is)) (omega (arith, ints)) c.divisor-divisor.ensures.greatest.k_slope
-    | else-is_positive_first w ↦ divides_by _ _ _ _ (omega (arith, ints, w.factor-is)) (omega (arith, ints)) c.divisor-divisor.ensures.greatest.k_slope
+      | then-is_positive_first w ↦ divides_by _ _ _ _ (omega (arith, ints, w.factor-is)) (omega (arith, ints)) c.divisor-divisor.ensures.greatest.k_slope
+      | else-is_positive_first w ↦ divides_by _ _ _ _ (omega (arith, ints, w.factor-is)) (omega (arith, ints)) c.divisor-divisor.ensures.greatest.k_slope
     ]
 
 pub exact_quotient-requires-2-clause-divides : goal.exact_quotient-requires-2-clause-divides
 exact_quotient-requires-2-clause-divides c =
     elim c.if-is_positive_first.branch [
-      then-is_positive_first w ↦ divides_by _ _ _ _ (omega (arith, ints, w.factor-is)) (omega (arith, ints)) c.divisor-divisor.ensures.greatest.n_slope
-    | else-is_positive_first w ↦ divides_by _ _ _ _ (omega (arith, ints, w.factor-is)) (omega (arith, ints)) c.divisor-divisor.ensures.greatest.n_slope
+      | then-is_positive_first w ↦ divides_by _ _ _ _ (omega (arith, ints, w.factor-is)) (omega (arith, ints)) c.divisor-divisor.ensures.greatest.n_slope
+      | else-is_positive_first w ↦ divides_by _ _ _ _ (omega (arith, ints, w.factor-is)) (omega (arith, ints)) c.divisor-divisor.ensures.greatest.n_slope
     ]
 
 pub exact_quotient-requires-3-clause-divides : goal.exact_quotient-requires-3-clause-divides
 exact_quotient-requires-3-clause-divides c =
     elim c.if-is_positive_first.branch [
-      then-is_positive_first w ↦ divides_by _ _ _ _ (omega (arith, ints, w.factor-is)) (omega (arith, ints)) c.divisor-divisor.ensures.greatest.offset
-    | else-is_positive_first w ↦ divides_by _ _ _ _ (omega (arith, ints, w.factor-is)) (omega (arith, ints)) c.divisor-divisor.ensures.greatest.offset
+      | then-is_positive_first w ↦ divides_by _ _ _ _ (omega (arith, ints, w.factor-is)) (omega (arith, ints)) c.divisor-divisor.ensures.greatest.offset
+      | else-is_positive_first w ↦ divides_by _ _ _ _ (omega (arith, ints, w.factor-is)) (omega (arith, ints)) c.divisor-divisor.ensures.greatest.offset
     ]
 
 -- the quotients by the divisor, with the sign of the first number, are primitive
@@ -33,17 +33,17 @@ pub returns-clause-primitive : goal.returns-clause-primitive
 returns-clause-primitive c =
     let e : ℤ = to_z w64 c.if-is_positive_first.factor-bits in
     let k : e *ℤ to_z w64 (of_z w64 c.exact_quotient.result) ≡ c.args.self.now.k_slope = quotient_kept e _ _ _ c.exact_quotient.ensures.quotient
-        (omega (arith, ints)) (omega (arith, ints)) in
+    (omega (arith, ints)) (omega (arith, ints)) in
     let n : e *ℤ to_z w64 (of_z w64 c.exact_quotient-2.result) ≡ c.args.self.now.n_slope = quotient_kept e _ _ _ c.exact_quotient-2.ensures.quotient
-        (omega (arith, ints)) (omega (arith, ints)) in
+    (omega (arith, ints)) (omega (arith, ints)) in
     let o : e *ℤ to_z w64 (of_z w64 c.exact_quotient-3.result) ≡ c.args.self.now.offset = quotient_kept e _ _ _ c.exact_quotient-3.ensures.quotient
-        (omega (arith, ints)) (omega (arith, ints)) in
+    (omega (arith, ints)) (omega (arith, ints)) in
     let sign : SignIs (form_of c.args.self.now) e = elim c.if-is_positive_first.branch [
-      then-is_positive_first w ↦ inl (omega (arith, ints, w.factor-is, c.divisor-divisor.ensures.positive), w.if-is_positive_first.ensures.test.0 refl)
-    | else-is_positive_first w ↦ inr (omega (arith, ints, w.factor-is, c.divisor-divisor.ensures.positive), λ h. true≢false (sym (w.if-is_positive_first.ensures.test.1 h)))
+      | then-is_positive_first w ↦ inl (omega (arith, ints, w.factor-is, c.divisor-divisor.ensures.positive), w.if-is_positive_first.ensures.test.0 refl)
+      | else-is_positive_first w ↦ inr (omega (arith, ints, w.factor-is, c.divisor-divisor.ensures.positive), λ h. true≢false (sym (w.if-is_positive_first.ensures.test.1 h)))
     ] in
     let greatest : IsGreatestDivisor (form_of c.args.self.now) (unsigned_abs e) = elim c.if-is_positive_first.branch [
-      then-is_positive_first w ↦ subst (λ t. IsGreatestDivisor (form_of c.args.self.now) t) (omega (arith, ints, w.factor-is)) c.divisor-divisor.ensures.greatest
-    | else-is_positive_first w ↦ subst (λ t. IsGreatestDivisor (form_of c.args.self.now) t) (omega (arith, ints, w.factor-is)) c.divisor-divisor.ensures.greatest
+      | then-is_positive_first w ↦ subst (λ t. IsGreatestDivisor (form_of c.args.self.now) t) (omega (arith, ints, w.factor-is)) c.divisor-divisor.ensures.greatest
+      | else-is_positive_first w ↦ subst (λ t. IsGreatestDivisor (form_of c.args.self.now) t) (omega (arith, ints, w.factor-is)) c.divisor-divisor.ensures.greatest
     ] in
     primitive_quotients (form_of c.args.self.now) _ e (record { k_slope = k; n_slope = n; offset = o }) c.requires.not_zero sign greatest

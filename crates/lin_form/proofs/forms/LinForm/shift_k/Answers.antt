@@ -11,6 +11,6 @@ returns-clause-value c =
     let f : FitsSigned w64 c.args.self.now.offset = search rules in
     let g : FitsSigned w64 c.args.self.now.k_slope = search rules in
     let e : c.shifted.result ≡ c.args.self.now.offset +ℤ c.args.self.now.k_slope *ℤ c.args.by =
-        c.shifted.ensures.offset ∙ (λ i. to_z-of_z w64 _ f i +ℤ to_z-of_z w64 _ g i *ℤ to_z-of_z w64 _ c.ranges.by i) in
+    c.shifted.ensures.offset ∙ (λ i. to_z-of_z w64 _ f i +ℤ to_z-of_z w64 _ g i *ℤ to_z-of_z w64 _ c.ranges.by i) in
     k_shifted c.args.self.now.n_slope c.args.self.now.k_slope c.args.self.now.offset c.args.by _ _ _ (omega (arith, ints)) (omega (arith, ints))
     (omega (arith, ints, e))
