@@ -1,6 +1,7 @@
 pub mod Quotients
 pub mod Shifts
 pub mod PrimitiveForms
+pub mod OnlyPrimitive
 pub mod Rings
 pub mod Powers
 pub mod Bounds

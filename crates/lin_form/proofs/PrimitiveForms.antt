@@ -7,7 +7,7 @@ use Rattle.std.proofs.lemmas.Nat.Gcd.{le_of_dvd, dvd_antisymm, dvd_trans}
 use Rattle.std.proofs.Math.Nat.{dvd_of_mul-dvd-mul_left, mul-dvd-mul_left, one-dvd, eq-zero_of_zero-dvd}
 use Rattle.hypergeometric.specs.LinearForm.{LinearForm}
 use Rattle.hypergeometric.specs.FormOrder.{IsPositiveFirst, IsPrimitive}
-use Rattle.lin_form.specs.Forms.{form_with, IsGreatestDivisor}
+use Rattle.lin_form.specs.Forms.{form_with, multiple, IsGreatestDivisor}
 
 -- a factor above 0 keeps the sign, one below 0 turns it, and neither makes a 0
 pub same_sign : (e a : ℤ) → pos 0 <ℤ e → pos 0 <ℤ (e *ℤ a) → pos 0 <ℤ a
@@ -37,6 +37,9 @@ pub record AreQuotients (f g : LinearForm) (e : ℤ) : Type 0 where
   pub k_slope : e *ℤ g.k_slope ≡ f.k_slope
   pub n_slope : e *ℤ g.n_slope ≡ f.n_slope
   pub offset : e *ℤ g.offset ≡ f.offset
+
+pub product : {f g : LinearForm} {e : ℤ} → AreQuotients f g e → multiple e g ≡ f
+product q = λ i. form_with (q.n_slope i) (q.k_slope i) (q.offset i)
 
 -- some number of the form isn't 0
 abbrev pub IsNotZero : LinearForm → Type 0

@@ -103,11 +103,12 @@ impl LinForm {
     /// The factor and the primitive form whose product is this form.
     ///
     /// The numbers of the primitive form have no common divisor above 1, and the first of k slope, n slope and offset that
-    /// isn't 0 is positive.
+    /// isn't 0 is positive. No other factor and form are so.
     pub fn primitive(&self) -> (i64, LinForm)
         requires not_zero { form_of self.now ≢ form_with (pos 0) (pos 0) (pos 0) }
         ensures product { form_of self.now ≡ multiple result.0 (form_of result.1) }
         ensures primitive { IsPrimitive (form_of result.1) }
+        ensures only { (c : ℤ) → (f : LinearForm) → form_of self.now ≡ multiple c f → IsPrimitive f → (result.0 ≡ c) × (form_of result.1 ≡ f) }
     {
         let divisor = self.divisor();
         let factor = if self.is_positive_first() {

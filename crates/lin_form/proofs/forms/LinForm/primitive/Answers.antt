@@ -1,9 +1,11 @@
 use Rattle.std.specs.Prelude.{◌≡◌, ℤ, ◌*ℤ◌, unsigned_abs}
 use Rattle.std.specs.Int.{w64, cast_signed as to_z, cast_unsigned as of_z}
-use Rattle.std.proofs.Common.{arith, subst, sym, inl, inr, true≢false, refl}
+use Rattle.std.proofs.Common.{arith, subst, sym, ◌∙◌, inl, inr, true≢false, refl}
 use Rattle.std.proofs.lemmas.Int.{ints}
-use Rattle.lin_form.specs.Forms.{form_of, IsGreatestDivisor}
-use Rattle.lin_form.proofs.PrimitiveForms.{SignIs, primitive_quotients, divides_by, quotient_kept}
+use Rattle.hypergeometric.specs.LinearForm.{LinearForm}
+use Rattle.lin_form.specs.Forms.{form_of, form_with, IsGreatestDivisor}
+use Rattle.lin_form.proofs.PrimitiveForms.{AreQuotients, product, SignIs, primitive_quotients, divides_by, quotient_kept}
+use Rattle.lin_form.proofs.OnlyPrimitive.{only_primitive}
 use Rattle.lin_form.proofs.forms.LinForm.primitive.Goals as goal
 use Rattle.lin_form.proofs.forms.LinForm.primitive.Goals.{then-is_positive_first, else-is_positive_first}
 
@@ -28,16 +30,25 @@ exact_quotient-requires-3-clause-divides c =
       | else-is_positive_first w ↦ divides_by _ _ _ _ (omega (arith, ints, w.factor-is)) (omega (arith, ints)) c.divisor-divisor.ensures.greatest.offset
     ]
 
+-- the factor times the quotients are the numbers of the form
+abbrev form : (c : goal.After-form-1) → LinearForm
+form c = form_with (to_z w64 (of_z w64 c.exact_quotient-2.result)) (to_z w64 (of_z w64 c.exact_quotient.result)) (to_z w64 (of_z w64 c.exact_quotient-3.result))
+
+quotients : (c : goal.After-form-1) → AreQuotients (form_of c.args.self.now) (form c) (to_z w64 c.if-is_positive_first.factor-bits)
+quotients c =
+    let e : ℤ = to_z w64 c.if-is_positive_first.factor-bits in
+    let k : e *ℤ (form c).k_slope ≡ c.args.self.now.k_slope = quotient_kept e _ _ _ c.exact_quotient.ensures.quotient
+    (omega (arith, ints)) (omega (arith, ints)) in
+    let n : e *ℤ (form c).n_slope ≡ c.args.self.now.n_slope = quotient_kept e _ _ _ c.exact_quotient-2.ensures.quotient
+    (omega (arith, ints)) (omega (arith, ints)) in
+    let o : e *ℤ (form c).offset ≡ c.args.self.now.offset = quotient_kept e _ _ _ c.exact_quotient-3.ensures.quotient
+    (omega (arith, ints)) (omega (arith, ints)) in
+    record { k_slope = k; n_slope = n; offset = o }
+
 -- the quotients by the divisor, with the sign of the first number, are primitive
 pub returns-clause-primitive : goal.returns-clause-primitive
 returns-clause-primitive c =
     let e : ℤ = to_z w64 c.if-is_positive_first.factor-bits in
-    let k : e *ℤ to_z w64 (of_z w64 c.exact_quotient.result) ≡ c.args.self.now.k_slope = quotient_kept e _ _ _ c.exact_quotient.ensures.quotient
-    (omega (arith, ints)) (omega (arith, ints)) in
-    let n : e *ℤ to_z w64 (of_z w64 c.exact_quotient-2.result) ≡ c.args.self.now.n_slope = quotient_kept e _ _ _ c.exact_quotient-2.ensures.quotient
-    (omega (arith, ints)) (omega (arith, ints)) in
-    let o : e *ℤ to_z w64 (of_z w64 c.exact_quotient-3.result) ≡ c.args.self.now.offset = quotient_kept e _ _ _ c.exact_quotient-3.ensures.quotient
-    (omega (arith, ints)) (omega (arith, ints)) in
     let sign : SignIs (form_of c.args.self.now) e = elim c.if-is_positive_first.branch [
       | then-is_positive_first w ↦ inl (omega (arith, ints, w.factor-is, c.divisor-divisor.ensures.positive), w.if-is_positive_first.ensures.test.0 refl)
       | else-is_positive_first w ↦ inr (omega (arith, ints, w.factor-is, c.divisor-divisor.ensures.positive), λ h. true≢false (sym (w.if-is_positive_first.ensures.test.1 h)))
@@ -46,4 +57,10 @@ returns-clause-primitive c =
       | then-is_positive_first w ↦ subst (λ t. IsGreatestDivisor (form_of c.args.self.now) t) (omega (arith, ints, w.factor-is)) c.divisor-divisor.ensures.greatest
       | else-is_positive_first w ↦ subst (λ t. IsGreatestDivisor (form_of c.args.self.now) t) (omega (arith, ints, w.factor-is)) c.divisor-divisor.ensures.greatest
     ] in
-    primitive_quotients (form_of c.args.self.now) _ e (record { k_slope = k; n_slope = n; offset = o }) c.requires.not_zero sign greatest
+    primitive_quotients (form_of c.args.self.now) (form c) e (quotients c) c.requires.not_zero sign greatest
+
+-- and no other factor and form are so
+pub returns-clause-only : goal.returns-clause-only
+returns-clause-only c = λ d f h p.
+    only_primitive (to_z w64 c.if-is_positive_first.factor-bits) d (form c) f (product (quotients c) ∙ h)
+    (λ z. c.requires.not_zero (sym (product (quotients c)) ∙ z)) (returns-clause-primitive c) p
