@@ -1,9 +1,8 @@
 -- Bounds of magnitudes: bounds of two values bound their product, and where a product of bounds fits, each part of it is in bounds.
-use Rattle.std.specs.Prelude.{◌≡◌, ℕ, zero, suc, ◌⊎◌, Bool, true, false, cond, IsTrue, refl}
+use Rattle.std.specs.Prelude.{◌≡◌, ℕ, zero, suc, Bool, true, false, cond, refl}
 use Rattle.std.proofs.Common.{ap, sym, ◌∙◌, subst, ⊎_elim, true≢false}
 use Rattle.ring_laws.specs.Algebra.{Algebra, Ops, Laws, Passing, within, same_passing, ProductInBounds}
 use Rattle.lin_form.specs.Products.{power_in, nonzero_magnitude, IsBound}
-use Rattle.lin_form.proofs.Powers.{product_unit}
 
 -- the ring has more than one meaning
 module _ (a : Algebra) (l : Laws a) (distinct : ¬ (a.ops.unit ≡ a.ops.nought)) where

@@ -1,8 +1,8 @@
 -- Forms and lists worked out by hand, so that a wrong rule in specs/ does not check.
-use Rattle.std.specs.Prelude.{◌≡◌, pos, negsuc, [], ◌∷◌, Bool, true, false, refl}
+use Rattle.std.specs.Prelude.{◌≡◌, pos, negsuc, [], ◌∷◌, refl}
 use Rattle.ring_laws.specs.Meaning.{number, listed}
 use Rattle.lin_form.specs.Forms.{form_with, multiple}
-use Rattle.lin_form.specs.FactorLists.{same_form, factor_with, power_of, with_factor}
+use Rattle.lin_form.specs.FactorLists.{factor_with, with_factor}
 use Rattle.lin_form.specs.Products.{form_polynomial, list_polynomial}
 
 -- -2 times 3*k - 2*n + 1 is -6*k + 4*n - 2

@@ -1,17 +1,17 @@
 -- A product of forms, factor by factor: what is reached after some of them, where a step is in bounds, and the value at the end.
-use Rattle.std.specs.Prelude.{◌≡◌, ℕ, zero, suc, ◌+◌, ◌<◌, ℤ, pos, ◌+ℤ◌, ◌*ℤ◌, IsTrue, List, [], ◌∷◌, drop, length, slice_get, Option, Some, None, Result, Ok, Err, IfErr, ◌≤◌, refl}
+use Rattle.std.specs.Prelude.{◌≡◌, ℕ, zero, suc, ◌+◌, ◌<◌, ℤ, pos, ◌+ℤ◌, ◌*ℤ◌, IsTrue, List, [], ◌∷◌, drop, length, slice_get, Option, Some, Result, Ok, Err, IfErr, ◌≤◌, refl}
 use Rattle.std.proofs.Common.{ap, sym, ◌∙◌, subst, arith, add-one, IsErrAnd}
 use lib.IntN.{pow}
 use Rattle.std.proofs.Math.IntN.{*ℤ_comm}
-use Rattle.ring_laws.specs.Meaning.{Meaning, number, listed, items}
+use Rattle.ring_laws.specs.Meaning.{Meaning, number, listed}
 use Rattle.ring_laws.specs.Algebra.{Ops, Laws, Passing, within}
 use Rattle.ring_laws.specs.Answer.{OnFault, fault_weaker}
-use Rattle.ring_laws.specs.Wholes.{whole_algebra, number_of}
+use Rattle.ring_laws.specs.Wholes.{number_of}
 use Rattle.ring_laws.specs.WholeLaws.{whole_laws}
 use Rattle.ring_laws.specs.declared.faults.RingFault.{RingFault}
 use Rattle.ring_solver.proofs.Read.{ring_z, reading_z}
 use Rattle.poly_laws.specs.Lists.{trimmed}
-use Rattle.poly_laws.specs.Values.{horner, value_at, level, tower}
+use Rattle.poly_laws.specs.Values.{value_at, level}
 use Rattle.poly_laws.proofs.Coefficients.{meanings-trimmed, trimmed_passes}
 use Rattle.poly_laws.proofs.Equal.{level_laws}
 use Rattle.poly_laws.proofs.Keeps.{of_list, whole_keeps, value_at_keeps}

@@ -1,6 +1,6 @@
 -- Why a form has one factor and one primitive form: the magnitude of the factor is the greatest common divisor, and the first
 -- number that isn't 0 tells its sign.
-use Rattle.std.specs.Prelude.{◌≡◌, ◌≢◌, ℕ, zero, suc, ◌+◌, ◌*◌, ◌/◌, ◌%◌, ◌≤◌, ◌<◌, ℤ, pos, negsuc, ◌+ℤ◌, ◌-ℤ◌, ◌*ℤ◌, ◌<ℤ◌, unsigned_abs, [], ◌∷◌, refl}
+use Rattle.std.specs.Prelude.{◌≡◌, ◌≢◌, ℕ, zero, suc, ◌*◌, ◌/◌, ◌%◌, ◌<◌, ℤ, pos, negsuc, ◌-ℤ◌, ◌*ℤ◌, ◌<ℤ◌, unsigned_abs, [], ◌∷◌, refl}
 use Rattle.std.specs.Int.{◌∣◌, IsGcd}
 use Rattle.std.proofs.Common.{arith, ap, sym, ◌∙◌, subst, inl, inr}
 use Rattle.std.proofs.lemmas.Int.{ints, unsigned_abs-mul}
@@ -61,53 +61,55 @@ same_magnitude e c a b some same h =
 -- two primitive forms with multiples that are one form, not zero
 module _ (f p g : LinearForm) (e c : ℤ) (q : AreQuotients f p e) (r : AreQuotients f g c) (some : IsNotZero f)
     (first : IsPrimitive p) (second : IsPrimitive g)
-    where
-  some_factor : (h : LinearForm) (d : ℤ) → AreQuotients f h d → 0 < unsigned_abs d
-  some_factor h (pos zero) t = absurd (some (nothing h.k_slope t.k_slope, nothing h.n_slope t.n_slope, nothing h.offset t.offset))
-    where
-      nothing : (a : ℤ) {b : ℤ} → pos 0 *ℤ a ≡ b → b ≡ pos 0
-      nothing a e = sym e ∙ zero-*ℤ a
-  some_factor h (pos (suc d)) t = omega arith
-  some_factor h (negsuc d) t = omega arith
+  where
+    some_factor : (h : LinearForm) (d : ℤ) → AreQuotients f h d → 0 < unsigned_abs d
+    some_factor h (pos zero) t = absurd (some (nothing h.k_slope t.k_slope, nothing h.n_slope t.n_slope, nothing h.offset t.offset))
+      where
+        nothing : (a : ℤ) {b : ℤ} → pos 0 *ℤ a ≡ b → b ≡ pos 0
+        nothing a e = sym e ∙ zero-*ℤ a
+    some_factor h (pos (suc d)) t = omega arith
+    some_factor h (negsuc d) t = omega arith
 
-  same_size : unsigned_abs e ≡ unsigned_abs c
-  same_size = dvd_antisymm
-    (divides_factor (unsigned_abs c) (unsigned_abs g.k_slope) (unsigned_abs g.n_slope) (unsigned_abs g.offset) (some_factor g c r) second.coprime
-    (unsigned_abs e) (shared e c p.k_slope g.k_slope (q.k_slope ∙ sym r.k_slope)) (shared e c p.n_slope g.n_slope (q.n_slope ∙ sym r.n_slope))
-    (shared e c p.offset g.offset (q.offset ∙ sym r.offset)))
-    (divides_factor (unsigned_abs e) (unsigned_abs p.k_slope) (unsigned_abs p.n_slope) (unsigned_abs p.offset) (some_factor p e q) first.coprime
-    (unsigned_abs c) (shared c e g.k_slope p.k_slope (r.k_slope ∙ sym q.k_slope)) (shared c e g.n_slope p.n_slope (r.n_slope ∙ sym q.n_slope))
-    (shared c e g.offset p.offset (r.offset ∙ sym q.offset)))
+    same_size : unsigned_abs e ≡ unsigned_abs c
+    same_size = dvd_antisymm
+        (divides_factor (unsigned_abs c) (unsigned_abs g.k_slope) (unsigned_abs g.n_slope) (unsigned_abs g.offset) (some_factor g c r) second.coprime
+        (unsigned_abs e) (shared e c p.k_slope g.k_slope (q.k_slope ∙ sym r.k_slope)) (shared e c p.n_slope g.n_slope (q.n_slope ∙ sym r.n_slope))
+        (shared e c p.offset g.offset (q.offset ∙ sym r.offset)))
+        (divides_factor (unsigned_abs e) (unsigned_abs p.k_slope) (unsigned_abs p.n_slope) (unsigned_abs p.offset) (some_factor p e q) first.coprime
+        (unsigned_abs c) (shared c e g.k_slope p.k_slope (r.k_slope ∙ sym q.k_slope)) (shared c e g.n_slope p.n_slope (r.n_slope ∙ sym q.n_slope))
+        (shared c e g.offset p.offset (r.offset ∙ sym q.offset)))
 
-  k : unsigned_abs p.k_slope ≡ unsigned_abs g.k_slope
-  k = same_magnitude e c p.k_slope g.k_slope (some_factor p e q) same_size (q.k_slope ∙ sym r.k_slope)
+    k : unsigned_abs p.k_slope ≡ unsigned_abs g.k_slope
+    k = same_magnitude e c p.k_slope g.k_slope (some_factor p e q) same_size (q.k_slope ∙ sym r.k_slope)
 
-  n : unsigned_abs p.n_slope ≡ unsigned_abs g.n_slope
-  n = same_magnitude e c p.n_slope g.n_slope (some_factor p e q) same_size (q.n_slope ∙ sym r.n_slope)
+    n : unsigned_abs p.n_slope ≡ unsigned_abs g.n_slope
+    n = same_magnitude e c p.n_slope g.n_slope (some_factor p e q) same_size (q.n_slope ∙ sym r.n_slope)
 
-  o : unsigned_abs p.offset ≡ unsigned_abs g.offset
-  o = same_magnitude e c p.offset g.offset (some_factor p e q) same_size (q.offset ∙ sym r.offset)
+    o : unsigned_abs p.offset ≡ unsigned_abs g.offset
+    o = same_magnitude e c p.offset g.offset (some_factor p e q) same_size (q.offset ∙ sym r.offset)
 
-  same_factor : IsPositiveFirst p → IsPositiveFirst g → e ≡ c
-  same_factor (inl a) (inl b) = cancel_right e c p.k_slope g.k_slope a (omega (arith, ints, k, a, b)) (q.k_slope ∙ sym r.k_slope)
-  same_factor (inl a) (inr (inl (z, b))) = absurd (omega (arith, ints, k, a, z))
-  same_factor (inl a) (inr (inr (z, y, b))) = absurd (omega (arith, ints, k, a, z))
-  same_factor (inr (inl (z, a))) (inl b) = absurd (omega (arith, ints, k, b, z))
-  same_factor (inr (inl (z, a))) (inr (inl (y, b))) =
-      cancel_right e c p.n_slope g.n_slope a (omega (arith, ints, n, a, b)) (q.n_slope ∙ sym r.n_slope)
-  same_factor (inr (inl (z, a))) (inr (inr (y, x, b))) = absurd (omega (arith, ints, n, a, x))
-  same_factor (inr (inr (z, y, a))) (inl b) = absurd (omega (arith, ints, k, b, z))
-  same_factor (inr (inr (z, y, a))) (inr (inl (x, b))) = absurd (omega (arith, ints, n, b, y))
-  same_factor (inr (inr (z, y, a))) (inr (inr (x, w, b))) =
-      cancel_right e c p.offset g.offset a (omega (arith, ints, o, a, b)) (q.offset ∙ sym r.offset)
+    same_factor : IsPositiveFirst p → IsPositiveFirst g → e ≡ c
+    same_factor (inl a) (inl b) = cancel_right e c p.k_slope g.k_slope a (omega (arith, ints, k, a, b)) (q.k_slope ∙ sym r.k_slope)
+    same_factor (inl a) (inr (inl (z, b))) = absurd (omega (arith, ints, k, a, z))
+    same_factor (inl a) (inr (inr (z, y, b))) = absurd (omega (arith, ints, k, a, z))
+    same_factor (inr (inl (z, a))) (inl b) = absurd (omega (arith, ints, k, b, z))
+    same_factor (inr (inl (z, a))) (inr (inl (y, b))) =
+        cancel_right e c p.n_slope g.n_slope a (omega (arith, ints, n, a, b)) (q.n_slope ∙ sym r.n_slope)
+    same_factor (inr (inl (z, a))) (inr (inr (y, x, b))) = absurd (omega (arith, ints, n, a, x))
+    same_factor (inr (inr (z, y, a))) (inl b) = absurd (omega (arith, ints, k, b, z))
+    same_factor (inr (inr (z, y, a))) (inr (inl (x, b))) = absurd (omega (arith, ints, n, b, y))
+    same_factor (inr (inr (z, y, a))) (inr (inr (x, w, b))) =
+        cancel_right e c p.offset g.offset a (omega (arith, ints, o, a, b)) (q.offset ∙ sym r.offset)
 
-  one_primitive : (e ≡ c) × (p ≡ g)
-  one_primitive =
-      let same : e ≡ c = same_factor first.first second.first in
-      let some_e : e ≢ pos 0 = λ z. omega (arith, ints, some_factor p e q, z) in
-      let number : (a b : ℤ) → e *ℤ a ≡ c *ℤ b → a ≡ b = λ a b h. cancel_left e a b some_e (h ∙ ap (λ z. z *ℤ b) (sym same)) in
-      (same, λ i. form_with (number p.n_slope g.n_slope (q.n_slope ∙ sym r.n_slope) i) (number p.k_slope g.k_slope (q.k_slope ∙ sym r.k_slope) i)
-      (number p.offset g.offset (q.offset ∙ sym r.offset) i))
+    one_primitive : (e ≡ c) × (p ≡ g)
+    one_primitive =
+        let same : e ≡ c = same_factor first.first second.first in
+        let some_e : e ≢ pos 0 = λ z. omega (arith, ints, some_factor p e q, z) in
+        let number : (a b : ℤ) → e *ℤ a ≡ c *ℤ b → a ≡ b = λ a b h. cancel_left e a b some_e (h ∙ ap (λ z. z *ℤ b) (sym same)) in (
+          same,
+          λ i. form_with (number p.n_slope g.n_slope (q.n_slope ∙ sym r.n_slope) i) (number p.k_slope g.k_slope (q.k_slope ∙ sym r.k_slope) i)
+              (number p.offset g.offset (q.offset ∙ sym r.offset) i),
+        )
 
 -- the factor and the primitive form whose product is a form that isn't zero are the only ones
 pub only_primitive : (e c : ℤ) (p g : LinearForm) → multiple e p ≡ multiple c g → multiple e p ≢ form_with (pos 0) (pos 0) (pos 0)

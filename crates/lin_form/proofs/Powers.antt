@@ -1,6 +1,6 @@
 -- Powers in a ring: an odd power is a factor and an even power, and an even power is a power of the square.
-use Rattle.std.specs.Prelude.{◌≡◌, ℕ, zero, suc, ◌+◌, ◌*◌, [], ◌∷◌, refl}
-use Rattle.std.proofs.Common.{ap, sym, ◌∙◌, arith}
+use Rattle.std.specs.Prelude.{◌≡◌, ℕ, zero, suc, ◌+◌, [], ◌∷◌, refl}
+use Rattle.std.proofs.Common.{ap, ◌∙◌, arith}
 use Rattle.ring_laws.specs.Algebra.{Ops, RingLaws}
 use Rattle.ring_solver.proofs.Read.{ring, reading}
 use Rattle.lin_form.specs.Products.{power_in}

@@ -1,5 +1,4 @@
 -- A ring by its laws, as a ring whose identities the solver proves.
-use Rattle.std.specs.Prelude.{◌≡◌, ℤ, pos}
 use Rattle.std.proofs.Common.{ap, sym, ◌∙◌}
 use Rattle.ring_laws.specs.Algebra.{Ops, RingLaws}
 use Rattle.ring_solver.specs.Rings.{CommRing}

@@ -1,5 +1,5 @@
 -- Entries in the order of the code's forms are factors in the order of forms.
-use Rattle.std.specs.Prelude.{◌≡◌, ◌≢◌, ℕ, zero, suc, ◌+◌, ◌<◌, ◌≤◌, ◌^◌, ◌<ℤ◌, Bool, true, false, List, [], ◌∷◌, map, length, slice_index_or, ◌⊎◌, Result, Ok, Err, OnOk, refl}
+use Rattle.std.specs.Prelude.{◌≡◌, ◌≢◌, ℕ, zero, suc, ◌<◌, ◌<ℤ◌, Bool, false, List, [], ◌∷◌, length, slice_index_or, Result, Ok, Err, OnOk, refl}
 use Rattle.std.specs.Cmp.{int_ranks}
 use Rattle.std.specs.List.{AllByRecursion, IsDistinct, AllZip}
 use Rattle.std.specs.List.Sorted.{IsPermutation}
@@ -9,12 +9,12 @@ use Rattle.std.specs.Ordering.{int_cmp, is_lt, ordering_then, MatchOrdering}
 use Rattle.std.specs.Result.{is_err}
 use Rattle.std.specs.declared.cmp.Ordering.{Ordering}
 use Rattle.std.specs.declared.cmp.Ordering.TheVariants.{Less, Equal, Greater}
-use Rattle.std.proofs.Common.{ap, sym, ◌∙◌, arith, add-one, subst, inl, inr, true≢false}
+use Rattle.std.proofs.Common.{ap, sym, ◌∙◌, arith, add-one, inl, inr, true≢false}
 use Rattle.std.proofs.lemmas.Int.{ints}
 use Rattle.std.proofs.lemmas.Map.Keys.{IsDistinct-head, IsDistinct-tail}
 use Rattle.std.proofs.lemmas.List.Sorted.{IsPermutation-map, All-permutation}
 use Rattle.hypergeometric.specs.LinearForm.{LinearForm, Factor}
-use Rattle.hypergeometric.specs.FormOrder.{IsForm, IsFactor, IsBefore, IsSorted, NoFormTwice, AreFactors}
+use Rattle.hypergeometric.specs.FormOrder.{IsFactor, IsBefore, IsSorted, NoFormTwice, AreFactors}
 use Rattle.lin_form.specs.Forms.{form_of, form_with}
 use Rattle.lin_form.specs.FactorLists.{same_form, factor_with, factors_of}
 use Rattle.lin_form.specs.declared.forms.LinForm.{LinForm}

@@ -1,5 +1,5 @@
 -- Lists of forms with their powers, as calls change them: a form keeps its place, and a new one goes last.
-use Rattle.std.specs.Prelude.{◌≡◌, ℕ, ◌+◌, ◌<◌, Bool, ◌&&◌, cond, List, [], ◌∷◌, map, ⊤}
+use Rattle.std.specs.Prelude.{ℕ, ◌+◌, Bool, ◌&&◌, cond, List, [], ◌∷◌, map}
 use Rattle.std.specs.Ordering.{int_eq}
 use Rattle.hypergeometric.specs.LinearForm.{LinearForm, Factor}
 use Rattle.lin_form.specs.Forms.{form_of}

@@ -1,6 +1,6 @@
 -- The polynomial that a product of forms is, and when it is in bounds: where the product of the magnitudes of the factors that
 -- aren't zero fits. Every order of multiplying is then in bounds, since magnitudes of at least 1 only grow.
-use Rattle.std.specs.Prelude.{◌≡◌, ℕ, zero, suc, ℤ, cond, List, [], ◌∷◌, Result, Ok, Err}
+use Rattle.std.specs.Prelude.{◌≡◌, ℕ, zero, suc, cond, List, [], ◌∷◌, Result, Ok, Err}
 use Rattle.ring_laws.specs.Meaning.{Meaning, number, listed}
 use Rattle.ring_laws.specs.Algebra.{Ops, Algebra, Passing}
 use Rattle.ring_laws.specs.Answer.{OnFault}

@@ -1,5 +1,5 @@
 use Rattle.std.specs.Int.{w64}
-use Rattle.std.proofs.Common.{arith, rules, FitsSigned}
+use Rattle.std.proofs.Common.{rules, FitsSigned}
 use Rattle.lin_form.proofs.Quotients.{coded_quotient}
 use Rattle.lin_form.proofs.forms.exact_quotient.Goals as goal
 

@@ -1,4 +1,4 @@
-use Rattle.std.specs.Prelude.{◌≡◌, ◌+◌}
+use Rattle.std.specs.Prelude.{◌+◌}
 use Rattle.std.proofs.Common.{refl, subst, sym, ap, ◌∙◌}
 use Rattle.hypergeometric.specs.FormOrder.{AreFactors}
 use Rattle.lin_form.specs.Forms.{form_of}

@@ -1,7 +1,5 @@
-use Rattle.std.specs.Prelude.{◌≡◌, ℕ, ◌<◌, ◌≤◌, ◌^◌, pos, unsigned_abs}
-use Rattle.std.specs.Int.{w64}
-use Rattle.std.proofs.Common.{arith, subst, sym}
-use Rattle.std.proofs.lemmas.Int.{ints, to_z_pos}
+use Rattle.std.proofs.Common.{arith, subst}
+use Rattle.std.proofs.lemmas.Int.{ints}
 use Rattle.lin_form.specs.Forms.{form_of, IsGreatestDivisor}
 use Rattle.lin_form.proofs.PrimitiveForms.{divisor_of, divisor_within}
 use Rattle.lin_form.proofs.forms.LinForm.divisor.Goals as goal
