@@ -7,3 +7,8 @@ pub mod Left
 pub mod Values
 pub mod Kept
 mod KnownPowers
+pub mod Views
+pub mod Images
+pub mod Trees
+pub mod Literals
+pub mod Turns

@@ -2,3 +2,9 @@ pub mod PowersText
 pub mod PowersTree
 pub mod Powers
 pub mod Reading
+pub mod View
+pub mod Literals
+pub mod Steps
+pub mod Image
+pub mod Fronts
+pub mod Progress

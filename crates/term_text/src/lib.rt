@@ -13,8 +13,17 @@ ghost use Rattle.term_text.specs.PowersTree.{IsTreeOf};
 ghost use Rattle.term_text.specs.Powers.{IsRead, HasValueOf, ArePowers};
 ghost use Rattle.term_text.specs.Reading.{IsSign, StopsAt};
 
+mod ast;
+mod fault;
+mod front;
 mod mono;
+mod places;
+mod read;
+mod state;
 
+pub use ast::{Ast, Node, Part};
+pub use fault::TextFault;
+pub use read::read_term;
 use std::alloc::Global;
 
 /// A whole number other than 0, below 10^6 in magnitude, times a power of k from 0 to 4.
@@ -26,7 +35,7 @@ pub struct Monomial {
 
 /// Why no monomials were read.
 #[derive(Clone, Copy, Debug, PartialEq, Eq, Drop)]
-pub enum TextFault {
+pub enum PowersFault {
     /// The text is no sum of powers of k.
     Refused,
     /// Memory was refused.
@@ -36,11 +45,11 @@ pub enum TextFault {
 /// The monomials of a text, in its order: powers from 4 down to 0, each at most once.
 ///
 /// `Refused` where the text is no such sum.
-pub fn read_powers(alloc: Global, text: &[u8]) -> Result<Vec<Monomial>, TextFault>
+pub fn read_powers(alloc: Global, text: &[u8]) -> Result<Vec<Monomial>, PowersFault>
     ensures found { IfOk result (λ v. (tree : Tree) × IsRead text.now tree v.items) }
     ensures value { IfOk result (λ v. (tree : Tree) → IsTreeOf text.now tree → HasValueOf tree v.items) }
     ensures powers { IfOk result (λ v. ArePowers v.items) }
-    ensures refused { result ≡ Err TextFault.Refused → (tree : Tree) → IsTreeOf text.now tree → ⊥ }
+    ensures refused { result ≡ Err PowersFault.Refused → (tree : Tree) → IsTreeOf text.now tree → ⊥ }
 {
     let (mut negative, mut rest) = read_lead(text);
     let mut monomials = Vec::new(alloc);
@@ -48,13 +57,13 @@ pub fn read_powers(alloc: Global, text: &[u8]) -> Result<Vec<Monomial>, TextFaul
     loop {
         let (piece, after) = rest.split_at(piece_len(rest));
         let Some(monomial) = mono::read_mono(negative, piece) else {
-            return Err(TextFault::Refused);
+            return Err(PowersFault::Refused);
         };
         if monomial.power >= bound {
-            return Err(TextFault::Refused);
+            return Err(PowersFault::Refused);
         }
         bound = monomial.power;
-        monomials.push(monomial).map_err(|_| TextFault::Memory)?;
+        monomials.push(monomial).map_err(|_| PowersFault::Memory)?;
         let Some((sign, next)) = read_sign(after) else {
             return Ok(monomials);
         };
@@ -117,7 +126,7 @@ mod tests {
     fn answers(rt: &HostRuntime, text: &[u8], wanted: &[Monomial]) -> bool {
         match read_powers(rt.alloc(), text) {
             Ok(monomials) => monomials.as_slice() == wanted,
-            Err(fault) => fault == TextFault::Refused && wanted.is_empty(),
+            Err(fault) => fault == PowersFault::Refused && wanted.is_empty(),
         }
     }
 
