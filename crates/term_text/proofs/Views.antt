@@ -1,6 +1,6 @@
 -- The view of each node.
 use Rattle.ring_laws.specs.declared.wholes.Whole.{Whole}
-use Rattle.std.proofs.Common.{unsigned_abs, ◌≡◌, ℕ, List}
+use Rattle.std.proofs.Common.{unsigned_abs, ◌≡◌, List}
 use Rattle.hypergeometric.specs.Tree as d
 use Rattle.term_text.specs.declared.ast.Ast.{Ast}
 use Rattle.term_text.specs.declared.ast.Part.{Part}

@@ -1,5 +1,5 @@
 -- The number of a literal as the code has it.
-use Rattle.std.specs.Prelude.{◌≡◌, ℕ, ◌<◌, ◌^◌, Bool, true, false, nat_lt, pos, refl}
+use Rattle.std.specs.Prelude.{◌≡◌, ℕ, ◌^◌, Bool, true, false, nat_lt, pos, refl}
 use Rattle.std.proofs.Common.{lit<}
 use Rattle.std.proofs.lemmas.Bool.{ltb-true}
 use Rattle.ring_laws.specs.declared.wholes.Whole.{Whole}

@@ -313,9 +313,10 @@ mod tests {
     // The longest text: a space and 32,768 times k.
     #[test]
     fn longest_sum(rt: HostRuntime) -> Result<(), AllocError> {
-        let mut text = vec![in rt.alloc(); b' '; 65536]?;
-        for at in 1..65536 {
-            text[at] = if at % 2 == 1 { b'k' } else { b'+' };
+        let mut text = Vec::new(rt.alloc());
+        text.extend_from_slice(b" k".as_slice())?;
+        for _ in 0..32767 {
+            text.extend_from_slice(b"+k".as_slice())?;
         }
         assert!(rt; place_of(&rt, text.as_slice()) == Some(2));
         Ok(())

@@ -1,4 +1,3 @@
-use Rattle.std.proofs.Common.{◌∙◌, sym}
 use Rattle.term_text.proofs.Literals.{number_is}
 use Rattle.term_text.proofs.front.number.Goals as goal
 
