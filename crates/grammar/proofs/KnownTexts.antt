@@ -4,8 +4,9 @@ use Rattle.std.specs.Prelude.{codes, nat_lt, if◌then◌else◌}
 use Rattle.grammar.specs.Token.{digits, name_n, name_k, name_binomial, minus, star, slash, caret, bang, opening, closing, comma, Placed, with_token, IsNested64}
 use Rattle.hypergeometric.specs.Tree.{tree, literal, variable_n, variable_k, sum_of, product_of, power_of, binomial_of, no_parts, part}
 use Rattle.grammar.specs.Grammar.{product_alone, minus_product, power_alone, power_more, postfix_alone, raised, atom_alone, number, the_n, the_k, choose}
-use Rattle.grammar.specs.Reading.{IsFirstFault, IsTreeOf, unexpected_at, unclosed_at, empty_input}
-use Rattle.grammar.proofs.Prefixes.{continues_where, not_continues, not_derived_where}
+use Rattle.grammar.specs.Reading.{IsFirstFault, HasTrees, unexpected_at, unclosed_at, empty_input}
+use Rattle.grammar.specs.Several.{Kind, a_term, term_alone}
+use Rattle.grammar.proofs.TermKinds.{continues_where, not_continues, not_derived_where}
 
 -- texts of few parentheses
 abbrev stays_below : List ℕ → List Placed → Bool
@@ -27,67 +28,66 @@ nested_where places (t ∷ ts) e = go (nat_lt (length places) 64) refl e (nested
 abbrev square_tokens : List Placed
 square_tokens = (0, name_k) ∷ (1, caret) ∷ (2, digits 2) ∷ []
 
-square : IsTreeOf (codes "k^2") (tree 1 (power_of (tree 0 variable_k) (tree 2 (literal 2))))
+square : HasTrees a_term (codes "k^2") ((tree 1 (power_of (tree 0 variable_k) (tree 2 (literal 2)))) ∷ [])
 square = (
   square_tokens,
   3,
   record {
     are_next = (1, refl, refl, (1, refl, refl, (1, refl, refl, refl)));
     nested = nested_where [] square_tokens refl;
-    continued = continues_where square_tokens refl;
+    continued = continues_where a_term square_tokens refl;
   },
   refl,
-  product_alone (power_alone (raised (atom_alone (the_k 0)) 1 (number 2 2))),
-  refl,
+  term_alone (product_alone (power_alone (raised (atom_alone (the_k 0)) 1 (number 2 2)))),
+  record { whole = refl; text = refl },
   refl,
 )
 
 abbrev halved_tokens : List Placed
 halved_tokens = (0, minus) ∷ (1, name_k) ∷ (2, star) ∷ (3, name_n) ∷ (4, slash) ∷ (5, digits 2) ∷ []
 
-halved : IsTreeOf (codes "-k*n/2")
-    (tree 0 (sum_of (part true (tree 2 (product_of (part false (tree 1 variable_k) (part false (tree 3 variable_n) (part true (tree 5 (literal 2)) no_parts))))) no_parts)))
+halved : HasTrees a_term (codes "-k*n/2") ((tree 0 (sum_of (part true (tree 2 (product_of (part false (tree 1 variable_k) (part false (tree 3 variable_n) (part true (tree 5 (literal 2)) no_parts))))) no_parts))) ∷ [])
 halved = (
   halved_tokens,
   6,
   record {
     are_next = (1, refl, refl, (1, refl, refl, (1, refl, refl, (1, refl, refl, (1, refl, refl, (1, refl, refl, refl))))));
     nested = nested_where [] halved_tokens refl;
-    continued = continues_where halved_tokens refl;
+    continued = continues_where a_term halved_tokens refl;
   },
   refl,
-  minus_product 0 (power_more (power_more (power_alone (postfix_alone (atom_alone (the_k 1)))) false 2 (postfix_alone (atom_alone (the_n 3)))) true 4 (postfix_alone (atom_alone (number 5 2)))),
-  refl,
+  term_alone (minus_product 0 (power_more (power_more (power_alone (postfix_alone (atom_alone (the_k 1)))) false 2 (postfix_alone (atom_alone (the_n 3)))) true 4 (postfix_alone (atom_alone (number 5 2))))),
+  record { whole = refl; text = refl },
   refl,
 )
 
 abbrev chosen_tokens : List Placed
 chosen_tokens = (0, name_binomial) ∷ (8, opening) ∷ (9, name_n) ∷ (10, comma) ∷ (12, name_k) ∷ (13, closing) ∷ []
 
-chosen : IsTreeOf (codes "binomial(n, k)") (tree 0 (binomial_of (tree 9 variable_n) (tree 12 variable_k)))
+chosen : HasTrees a_term (codes "binomial(n, k)") ((tree 0 (binomial_of (tree 9 variable_n) (tree 12 variable_k))) ∷ [])
 chosen = (
   chosen_tokens,
   14,
   record {
     are_next = (8, refl, refl, (1, refl, refl, (1, refl, refl, (1, refl, refl, (1, refl, refl, (1, refl, refl, refl))))));
     nested = nested_where [] chosen_tokens refl;
-    continued = continues_where chosen_tokens refl;
+    continued = continues_where a_term chosen_tokens refl;
   },
   refl,
-  product_alone (power_alone (postfix_alone (atom_alone (choose 0 8 (product_alone (power_alone (postfix_alone (atom_alone (the_n 9))))) 10 (product_alone (power_alone (postfix_alone (atom_alone (the_k 12))))) 13)))),
-  refl,
+  term_alone (product_alone (power_alone (postfix_alone (atom_alone (choose 0 8 (product_alone (power_alone (postfix_alone (atom_alone (the_n 9))))) 10 (product_alone (power_alone (postfix_alone (atom_alone (the_k 12))))) 13))))),
+  record { whole = refl; text = refl },
   refl,
 )
 
 abbrev two_bangs_tokens : List Placed
 two_bangs_tokens = (0, name_k) ∷ (1, bang) ∷ []
 
-two_bangs : IsFirstFault (codes "k!!") (unexpected_at 2)
+two_bangs : IsFirstFault a_term (codes "k!!") (unexpected_at 2)
 two_bangs = (
   two_bangs_tokens,
   2,
-  record { are_next = (1, refl, refl, (1, refl, refl, refl)); nested = nested_where [] two_bangs_tokens refl; continued = continues_where two_bangs_tokens refl },
-  inr (λ over. not_opening over.0, not_continues (two_bangs_tokens ++ (2, bang) ∷ []) refl, refl),
+  record { are_next = (1, refl, refl, (1, refl, refl, refl)); nested = nested_where [] two_bangs_tokens refl; continued = continues_where a_term two_bangs_tokens refl },
+  inr (λ over. not_opening over.0, not_continues a_term (two_bangs_tokens ++ (2, bang) ∷ []) refl, refl),
 )
   where
     not_opening : bang ≡ opening → ⊥
@@ -96,21 +96,21 @@ two_bangs = (
 abbrev left_open_tokens : List Placed
 left_open_tokens = (0, opening) ∷ []
 
-left_open : IsFirstFault (codes "(") (unclosed_at 0)
+left_open : IsFirstFault a_term (codes "(") (unclosed_at 0)
 left_open = (
   left_open_tokens,
   1,
-  record { are_next = (1, refl, refl, refl); nested = nested_where [] left_open_tokens refl; continued = continues_where left_open_tokens refl },
-  (not_derived_where left_open_tokens refl, refl),
+  record { are_next = (1, refl, refl, refl); nested = nested_where [] left_open_tokens refl; continued = continues_where a_term left_open_tokens refl },
+  (not_derived_where a_term left_open_tokens refl, refl),
 )
 
 abbrev nothing_tokens : List Placed
 nothing_tokens = []
 
-nothing : IsFirstFault (codes " ") empty_input
+nothing : IsFirstFault a_term (codes " ") empty_input
 nothing = (
   nothing_tokens,
   0,
-  record { are_next = refl; nested = nested_where [] nothing_tokens refl; continued = continues_where nothing_tokens refl },
-  (not_derived_where nothing_tokens refl, refl),
+  record { are_next = refl; nested = nested_where [] nothing_tokens refl; continued = continues_where a_term nothing_tokens refl },
+  (not_derived_where a_term nothing_tokens refl, refl),
 )

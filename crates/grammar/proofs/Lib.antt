@@ -1,8 +1,9 @@
 pub mod Runs
 pub mod Prefixes
-pub mod KnownTexts
-pub mod Fitting
-pub mod OneOutcome
 pub mod Texts
 pub mod Several
+pub mod TermKinds
+pub mod Fitting
+pub mod OneOutcome
 pub mod SmallLiterals
+pub mod KnownTexts

@@ -1,12 +1,12 @@
--- A text has one outcome: one tree or one first fault.
+-- A text of a kind has one outcome: its trees or one first fault.
 use Rattle.std.proofs.Common.{◌≡◌, ℕ, ◌+◌, List, [], ◌∷◌, ◌++◌, ◌⊎◌, refl, ap, sym, ◌∙◌, subst, inl, inr}
 use Rattle.std.proofs.lemmas.List.{append_assoc}
 use Rattle.grammar.specs.Token.{Token, Placed, with_token, open_parentheses, IsOver64, IsNested64}
 use Rattle.grammar.specs.Tokens.{Front, at_end, token, flawed, past_spaces, next_front, HasTokens}
 use Rattle.hypergeometric.specs.Tree.{Tree}
-use Rattle.grammar.specs.Grammar.{sum_tree, Continues}
-use Rattle.grammar.specs.Reading.{Fault, IsMisfit, IsFaultBehind, AreFitting, IsFirstFault, IsTreeOf}
-use Rattle.grammar.proofs.Runs.{one_derivation}
+use Rattle.grammar.specs.Several.{terms_trees, Kind, Continues}
+use Rattle.grammar.specs.Reading.{Fault, IsMisfit, IsFaultBehind, AreFitting, IsFirstFault, HasTrees}
+use Rattle.grammar.proofs.TermKinds.{one_derivation}
 
 tokens_same : (x y : Token) (m n : ℕ) → token x m ≡ token y n → (x ≡ y) × (m ≡ n)
 tokens_same x y m n e = (cc, cc)
@@ -36,67 +36,71 @@ compared text from (t ∷ ts) e (u ∷ us) f h k =
     (with_head text t ts e us f (compared text (t.0 + h.0) ts e us f h.3 (subst (λ z. HasTokens text z us f) next k.3)))
 
 -- nothing that fits goes on from here
-abbrev Stops : List ℕ → List Placed → ℕ → Type 0
-Stops text ts e = (u : Placed) (len : ℕ) → u.0 ≡ past_spaces text e → next_front text e ≡ token u.1 len → ¬ (IsOver64 (open_parentheses [] ts) u.1) → Continues (ts ++ u ∷ []) → ⊥
+abbrev Stops : Kind → List ℕ → List Placed → ℕ → Type 0
+Stops kind text ts e = (u : Placed) (len : ℕ) → u.0 ≡ past_spaces text e → next_front text e ≡ token u.1 len → ¬ (IsOver64 (open_parentheses [] ts) u.1) → Continues kind (ts ++ u ∷ []) → ⊥
 
-stops_at_end : (text : List ℕ) (ts : List Placed) (e : ℕ) → next_front text e ≡ at_end → Stops text ts e
-stops_at_end text ts e end u len a f fine on = differ (sym end ∙ f)
+stops_at_end : (kind : Kind) (text : List ℕ) (ts : List Placed) (e : ℕ) → next_front text e ≡ at_end → Stops kind text ts e
+stops_at_end kind text ts e end u len a f fine on = differ (sym end ∙ f)
   where
     differ : at_end ≡ token u.1 len → ⊥
     differ d = cc
 
-stops_at_fault : (text : List ℕ) (ts : List Placed) (e : ℕ) (fault : Fault) → IsFaultBehind text ts (past_spaces text e) (next_front text e) fault → Stops text ts e
-stops_at_fault text ts e fault h u len a f fine on = go (subst (λ x. IsFaultBehind text ts (past_spaces text e) x fault) f h)
+stops_at_fault : (kind : Kind) (text : List ℕ) (ts : List Placed) (e : ℕ) (fault : Fault) → IsFaultBehind kind text ts (past_spaces text e) (next_front text e) fault → Stops kind text ts e
+stops_at_fault kind text ts e fault h u len a f fine on = go (subst (λ x. IsFaultBehind kind text ts (past_spaces text e) x fault) f h)
   where
-    go : IsMisfit ts u.1 (past_spaces text e) fault → ⊥
+    go : IsMisfit kind ts u.1 (past_spaces text e) fault → ⊥
     go (inl over) = fine over.0
-    go (inr m) = m.1 (subst (λ z. Continues (ts ++ z ∷ [])) (λ i. (a i, u.1)) on)
+    go (inr m) = m.1 (subst (λ z. Continues kind (ts ++ z ∷ [])) (λ i. (a i, u.1)) on)
 
-front_continues : (ts : List Placed) (u : Placed) (rest : List Placed) → Continues (ts ++ u ∷ rest) → Continues (ts ++ u ∷ [])
-front_continues ts u rest h = (rest ++ h.0, h.1, append_assoc ts (u ∷ []) (rest ++ h.0) ∙ sym (append_assoc ts (u ∷ rest) h.0) ∙ h.2)
+front_continues : (kind : Kind) (ts : List Placed) (u : Placed) (rest : List Placed) → Continues kind (ts ++ u ∷ rest) → Continues kind (ts ++ u ∷ [])
+front_continues kind ts u rest h = (
+  rest ++ h.0,
+  h.1,
+  record { whole = h.2.whole; text = append_assoc ts (u ∷ []) (rest ++ h.0) ∙ sym (append_assoc ts (u ∷ rest) h.0) ∙ h.2.text },
+)
 
 front_nested : (places : List ℕ) (ts : List Placed) (u : Placed) (rest : List Placed) → IsNested64 places (ts ++ u ∷ rest) → ¬ (IsOver64 (open_parentheses places ts) u.1)
 front_nested places [] u rest h = h.0
 front_nested places (t ∷ ts) u rest h = front_nested (with_token places t) ts u rest h.1
 
-not_longer : (text : List ℕ) (ts : List Placed) (e : ℕ) (us : List Placed) (f : ℕ) → Stops text ts e → AreFitting text us f → IsLonger text ts e us → ⊥
-not_longer text ts e us f stops fit h =
-    stops h.0 h.2 h.4 h.5 (front_nested [] ts h.0 h.1 (subst (IsNested64 []) h.3 fit.nested)) (front_continues ts h.0 h.1 (subst Continues h.3 fit.continued))
+not_longer : (kind : Kind) (text : List ℕ) (ts : List Placed) (e : ℕ) (us : List Placed) (f : ℕ) → Stops kind text ts e → AreFitting kind text us f → IsLonger text ts e us → ⊥
+not_longer kind text ts e us f stops fit h =
+    stops h.0 h.2 h.4 h.5 (front_nested [] ts h.0 h.1 (subst (IsNested64 []) h.3 fit.nested)) (front_continues kind ts h.0 h.1 (subst (Continues kind) h.3 fit.continued))
 
 -- both end alike
-both : (text : List ℕ) (ts : List Placed) (e : ℕ) (us : List Placed) (f : ℕ) → AreFitting text ts e → AreFitting text us f → Stops text ts e → Stops text us f → (ts ≡ us) × (e ≡ f)
-both text ts e us f a b s t = go (compared text 0 ts e us f a.are_next b.are_next)
+both : (kind : Kind) (text : List ℕ) (ts : List Placed) (e : ℕ) (us : List Placed) (f : ℕ) → AreFitting kind text ts e → AreFitting kind text us f → Stops kind text ts e → Stops kind text us f → (ts ≡ us) × (e ≡ f)
+both kind text ts e us f a b s t = go (compared text 0 ts e us f a.are_next b.are_next)
   where
     go : Compared text ts e us f → (ts ≡ us) × (e ≡ f)
     go (inl h) = h
-    go (inr (inl h)) = absurd (not_longer text ts e us f s b h)
-    go (inr (inr h)) = absurd (not_longer text us f ts e t a h)
+    go (inr (inl h)) = absurd (not_longer kind text ts e us f s b h)
+    go (inr (inr h)) = absurd (not_longer kind text us f ts e t a h)
 
-pub one_tree : (text : List ℕ) (t u : Tree) → IsTreeOf text t → IsTreeOf text u → t ≡ u
-one_tree text t u h k =
-    let same = both text h.0 h.1 k.0 k.1 h.2 k.2 (stops_at_end text h.0 h.1 h.3) (stops_at_end text k.0 k.1 k.3) in
-    h.6 ∙ ap sum_tree (one_derivation h.4 k.4 (sym h.5 ∙ same.0 ∙ k.5)) ∙ sym k.6
+pub one_trees : (kind : Kind) (text : List ℕ) (t u : List Tree) → HasTrees kind text t → HasTrees kind text u → t ≡ u
+one_trees kind text t u h k =
+    let same = both kind text h.0 h.1 k.0 k.1 h.2 k.2 (stops_at_end kind text h.0 h.1 h.3) (stops_at_end kind text k.0 k.1 k.3) in
+    h.6 ∙ ap terms_trees (one_derivation kind h.0 h.4 k.4 h.5 (record { whole = k.5.whole; text = same.0 ∙ k.5.text })) ∙ sym k.6
 
-pub tree_or_fault : (text : List ℕ) (t : Tree) (fault : Fault) → IsTreeOf text t → ¬ (IsFirstFault text fault)
-tree_or_fault text t fault h k =
-    let same = both text h.0 h.1 k.0 k.1 h.2 k.2 (stops_at_end text h.0 h.1 h.3) (stops_at_fault text k.0 k.1 fault k.3) in
+pub trees_or_fault : (kind : Kind) (text : List ℕ) (t : List Tree) (fault : Fault) → HasTrees kind text t → ¬ (IsFirstFault kind text fault)
+trees_or_fault kind text t fault h k =
+    let same = both kind text h.0 h.1 k.0 k.1 h.2 k.2 (stops_at_end kind text h.0 h.1 h.3) (stops_at_fault kind text k.0 k.1 fault k.3) in
     let end : next_front text k.1 ≡ at_end = ap (next_front text) (sym same.1) ∙ h.3 in
-    let lacks = subst (λ x. IsFaultBehind text k.0 (past_spaces text k.1) x fault) end k.3 in
-    lacks.0 h.4 (sym same.0 ∙ h.5)
+    let lacks = subst (λ x. IsFaultBehind kind text k.0 (past_spaces text k.1) x fault) end k.3 in
+    lacks.0 h.4 (record { whole = h.5.whole; text = sym same.0 ∙ h.5.text })
 
-pub one_fault : (text : List ℕ) (f g : Fault) → IsFirstFault text f → IsFirstFault text g → f ≡ g
-one_fault text f g h k =
-    let same = both text h.0 h.1 k.0 k.1 h.2 k.2 (stops_at_fault text h.0 h.1 f h.3) (stops_at_fault text k.0 k.1 g k.3) in
-    go h.0 h.1 (next_front text h.1) h.3 (subst (λ e. IsFaultBehind text h.0 (past_spaces text e) (next_front text e) g) (sym same.1)
-    (subst (λ ts. IsFaultBehind text ts (past_spaces text k.1) (next_front text k.1) g) (sym same.0) k.3))
+pub one_fault : (kind : Kind) (text : List ℕ) (f g : Fault) → IsFirstFault kind text f → IsFirstFault kind text g → f ≡ g
+one_fault kind text f g h k =
+    let same = both kind text h.0 h.1 k.0 k.1 h.2 k.2 (stops_at_fault kind text h.0 h.1 f h.3) (stops_at_fault kind text k.0 k.1 g k.3) in
+    go h.0 h.1 (next_front text h.1) h.3 (subst (λ e. IsFaultBehind kind text h.0 (past_spaces text e) (next_front text e) g) (sym same.1)
+    (subst (λ ts. IsFaultBehind kind text ts (past_spaces text k.1) (next_front text k.1) g) (sym same.0) k.3))
   where
-    misfits : (ts : List Placed) (t : Token) (at : ℕ) → IsMisfit ts t at f → IsMisfit ts t at g → f ≡ g
+    misfits : (ts : List Placed) (t : Token) (at : ℕ) → IsMisfit kind ts t at f → IsMisfit kind ts t at g → f ≡ g
     misfits ts t at (inl a) (inl b) = a.1 ∙ sym b.1
     misfits ts t at (inl a) (inr b) = absurd (b.0 a.0)
     misfits ts t at (inr a) (inl b) = absurd (a.0 b.0)
     misfits ts t at (inr a) (inr b) = a.2 ∙ sym b.2
 
-    go : (ts : List Placed) (e : ℕ) (x : Front) → IsFaultBehind text ts (past_spaces text e) x f → IsFaultBehind text ts (past_spaces text e) x g → f ≡ g
+    go : (ts : List Placed) (e : ℕ) (x : Front) → IsFaultBehind kind text ts (past_spaces text e) x f → IsFaultBehind kind text ts (past_spaces text e) x g → f ≡ g
     go ts e at_end a b = a.1 ∙ sym b.1
     go ts e (flawed w) a b = a ∙ sym b
     go ts e (token t len) a b = misfits ts t (past_spaces text e) a b

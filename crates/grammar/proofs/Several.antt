@@ -1,24 +1,20 @@
 -- Several terms, read one after another by the reader of one.
-use Rattle.std.proofs.Common.{◌≡◌, ℕ, true, List, [], ◌∷◌, ◌++◌, Option, Some, None, refl, ap, ◌∙◌}
+use Rattle.std.proofs.Common.{◌≡◌, ℕ, Bool, true, false, List, [], ◌∷◌, ◌++◌, Option, Some, None, refl, ap, sym, ◌∙◌}
 use Rattle.std.specs.Prelude.{if◌then◌else◌}
 use Rattle.grammar.specs.Token.{Token, digits, name_n, name_k, name_binomial, plus, minus, star, slash, caret, bang, opening, closing, comma, semicolon, Placed}
 use Rattle.grammar.specs.Grammar.{Sum, sum_text}
-use Rattle.grammar.specs.State.{State, wants_atom, wants_opening, has_power, begin, step, run}
-use Rattle.grammar.specs.Several.{Terms, term_alone, term_more, terms_text, count, Kind, is_open, States, with_term, at_semicolon, step_terms, run_terms}
+use Rattle.grammar.specs.State.{State, wants_atom, wants_opening, has_power, begin, step, run, finished}
+use Rattle.grammar.specs.Several.{Terms, term_alone, term_more, terms_text, Kind, a_term, a_pair, a_recurrence, is_whole, is_open}
+use Rattle.grammar.specs.States.{Before, States, start, with_term, at_semicolon, step_terms, run_terms, where_whole, finished_terms}
 use Rattle.grammar.proofs.Runs.{ended, grammar_runs, finished_ended}
+use Rattle.grammar.proofs.Prefixes.{some_of, none_some}
 use Rattle.grammar.proofs.Texts.{sum_in_front}
 
-none_some : {A : Type 0} {x : A} {B : Type 0} → None ≡ Some x → B
-none_some p = absurd (no_path p)
-  where
-    no_path : {A : Type 0} {x : A} → None ≡ Some x → ⊥
-    no_path p = cc
-
-with_now : Option (Terms × ℕ) → Option State → Option States
+with_now : Before → Option State → Option States
 with_now b o = elim o as (λ _. Option States) [ None ↦ None | Some s ↦ Some (record { before = b; now = s }) ]
 
 -- a term's token is taken in as before
-lifted : (kind : Kind) (b : Option (Terms × ℕ)) (s next : State) (at : ℕ) (t : Token) → step s at t ≡ Some next →
+lifted : (kind : Kind) (b : Before) (s next : State) (at : ℕ) (t : Token) → step s at t ≡ Some next →
     step_terms kind (record { before = b; now = s }) at t ≡ Some (record { before = b; now = next })
 unfolding with_now
 lifted kind b (wants_atom l st) next at semicolon e = none_some e
@@ -41,7 +37,7 @@ lifted kind b s next at comma e = ap (with_now b) e
 after : Kind → List Placed → Option States → Option States
 after kind rest o = elim o as (λ _. Option States) [ None ↦ None | Some next ↦ run_terms kind next rest ]
 
-lifted_run : (kind : Kind) (b : Option (Terms × ℕ)) (s next : State) (ts rest : List Placed) → run s ts ≡ Some next →
+lifted_run : (kind : Kind) (b : Before) (s next : State) (ts rest : List Placed) → run s ts ≡ Some next →
     run_terms kind (record { before = b; now = s }) (ts ++ rest) ≡ run_terms kind (record { before = b; now = next }) rest
 unfolding after
 lifted_run kind b s next [] rest e = ap (λ z. run_terms kind (record { before = b; now = z }) rest) (some_of e)
@@ -57,7 +53,7 @@ lifted_run kind b s next (t ∷ ts) rest e = go (step s t.0 t.1) refl e (λ x. l
     go None f e ih = none_some e
 
 -- one whole term
-term_run : (kind : Kind) (b : Option (Terms × ℕ)) (s : Sum) (rest : List Placed) →
+term_run : (kind : Kind) (b : Before) (s : Sum) (rest : List Placed) →
     run_terms kind (record { before = b; now = begin }) (sum_text s rest) ≡ run_terms kind (record { before = b; now = ended s [] }) rest
 term_run kind b s rest = ap (run_terms kind (record { before = b; now = begin })) (sum_in_front s rest) ∙ lifted_run kind b begin (ended s []) (sum_text s []) rest (grammar_runs s)
 
@@ -66,7 +62,7 @@ last_term : Terms → Sum
 last_term (term_alone s) = s
 last_term (term_more ts at s) = s
 
-before_last : Terms → Option (Terms × ℕ)
+before_last : Terms → Before
 before_last (term_alone s) = None
 before_last (term_more ts at s) = Some (ts, at)
 
@@ -78,9 +74,9 @@ whole_again (term_more ts at s) = refl
 -- more terms may follow each term but the last
 StaysOpen : Kind → Terms → Type 0
 StaysOpen kind (term_alone s) = Unit {0}
-StaysOpen kind (term_more ts at s) = (is_open kind (count ts) ≡ true) × StaysOpen kind ts
+StaysOpen kind (term_more ts at s) = (is_open kind ts ≡ true) × StaysOpen kind ts
 
-semicolon_steps : (kind : Kind) (ts : Terms) (at : ℕ) → is_open kind (count ts) ≡ true →
+semicolon_steps : (kind : Kind) (ts : Terms) (at : ℕ) → is_open kind ts ≡ true →
     step_terms kind (record { before = before_last ts; now = ended (last_term ts) [] }) at semicolon ≡ Some (record { before = Some (ts, at); now = begin })
 semicolon_steps kind ts at e =
     ap (λ o. elim o as (λ _. Option States) [ None ↦ None | Some s ↦ at_semicolon kind (with_term (before_last ts) s) at ]) (finished_ended (last_term ts))
@@ -95,3 +91,31 @@ terms_run kind (term_more ts at s) rest h =
     terms_run kind ts ((at, semicolon) ∷ sum_text s rest) h.1
     ∙ ap (after kind (sum_text s rest)) (semicolon_steps kind ts at h.0)
     ∙ term_run kind (Some (ts, at)) s rest
+
+-- all the terms of a text but the last may be followed by more
+stays_open : (kind : Kind) (ts : Terms) → is_whole kind ts ≡ true → StaysOpen kind ts
+unfolding StaysOpen
+stays_open kind (term_alone s) e = tt
+stays_open a_pair (term_more (term_alone s) at t) e = (refl, tt)
+stays_open a_recurrence (term_more ts at t) e = (refl, open_before ts)
+  where
+    open_before : (ts : Terms) → StaysOpen a_recurrence ts
+    open_before (term_alone s) = tt
+    open_before (term_more ts at s) = (refl, open_before ts)
+stays_open a_term (term_more ts at t) e = absurd (differ e)
+  where
+    differ : false ≡ true → ⊥
+    differ d = cc
+stays_open a_pair (term_more (term_more ts at s) at_2 t) e = absurd (differ e)
+  where
+    differ : false ≡ true → ⊥
+    differ d = cc
+
+pub terms_run_whole : (kind : Kind) (ts : Terms) → is_whole kind ts ≡ true → (m : States) × (run_terms kind start (terms_text ts []) ≡ Some m) × (finished_terms kind m ≡ Some ts)
+terms_run_whole kind ts e = (
+  record { before = before_last ts; now = ended (last_term ts) [] },
+  terms_run kind ts [] (stays_open kind ts e),
+  ap (λ o. elim o as (λ _. Option Terms) [ None ↦ None | Some s ↦ where_whole kind (with_term (before_last ts) s) ]) (finished_ended (last_term ts))
+      ∙ ap (where_whole kind) (whole_again ts)
+      ∙ ap (λ b. if b then Some ts else None) e,
+)

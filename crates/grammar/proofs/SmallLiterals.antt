@@ -4,8 +4,9 @@ use Rattle.std.specs.Prelude.{if◌then◌else◌, nat_lt, ◌==◌, codes, byte
 use Rattle.std.specs.Char.{is_ascii_digit, is_ascii_alphabetic, is_ascii_alphanumeric}
 use Rattle.std.specs.Str.{byte}
 use Rattle.std.specs.Str.Parse.{digits_value}
-use Rattle.grammar.specs.Token.{Token, digits, Placed, name_binomial, caret, bang, closing, comma, sum_sign, product_sign}
+use Rattle.grammar.specs.Token.{Token, digits, semicolon, Placed, name_binomial, caret, bang, closing, comma, sum_sign, product_sign}
 use Rattle.grammar.specs.Tokens.{Front, token, flawed, strange, not_ascii, unknown_name, literal_too_large, number_token, name_token, symbol_token, front, past_spaces, HasTokens}
+use Rattle.grammar.specs.Several.{Terms, term_alone, term_more, terms_text}
 use Rattle.grammar.specs.Grammar.{Sum, product_alone, minus_product, product_more, Product, power_alone, power_more, Power, postfix_alone, raised, Postfix, atom_alone, factorial_at, Atom, number, the_n, the_k, bracket, choose, sum_text, product_text, power_text, postfix_text, atom_text}
 
 abbrev pub IsSmall : Token → Type 0
@@ -89,3 +90,7 @@ mutual
   past_atom (bracket at s close) rest h = (past_sum s ((close, closing) ∷ rest) h.1).1
   past_atom (choose at o upper c lower close) rest h =
       (past_sum lower ((close, closing) ∷ rest) (past_sum upper ((c, comma) ∷ sum_text lower ((close, closing) ∷ rest)) h.1.1).1).1
+
+pub past_terms : (ts : Terms) (rest : List Placed) → AreSmall (terms_text ts rest) → AreSmall rest
+past_terms (term_alone s) rest h = past_sum s rest h
+past_terms (term_more ts at s) rest h = past_sum s rest (past_terms ts ((at, semicolon) ∷ sum_text s rest) h).1

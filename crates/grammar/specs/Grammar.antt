@@ -108,11 +108,3 @@ abbrev mutual
   atom_tree (the_k at) = tree at variable_k
   atom_tree (bracket at s close) = sum_tree s
   atom_tree (choose at open_at upper comma_at lower close) = tree at (binomial_of (sum_tree upper) (sum_tree lower))
-
--- some tokens are a text of the grammar with this derivation
-abbrev pub Derives : List Placed → Sum → Type 0
-Derives ts s = ts ≡ sum_text s []
-
--- some text of the grammar begins with these tokens
-abbrev pub Continues : List Placed → Type 0
-Continues ts = (rest : List Placed) × (s : Sum) × Derives (ts ++ rest) s

@@ -1,6 +1,7 @@
 pub mod Token
 pub mod Grammar
+pub mod Several
 pub mod Tokens
 pub mod Reading
 pub mod State
-pub mod Several
+pub mod States

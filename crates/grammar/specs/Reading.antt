@@ -1,9 +1,9 @@
--- What reading a text gives: the tree of the grammar, or the first fault.
+-- What reading a text of a kind gives: the trees of the grammar, or the first fault.
 use Rattle.std.specs.Prelude.{ℕ, List, [], ◌∷◌, ◌++◌, ◌≡◌, ◌⊎◌, length}
 use Rattle.grammar.specs.Token.{Token, Placed, open_parentheses, IsOver64, IsNested64}
 use Rattle.grammar.specs.Tokens.{Flaw, strange, not_ascii, unknown_name, literal_too_large, Front, at_end, token, flawed, past_spaces, next_front, HasTokens}
 use Rattle.hypergeometric.specs.Tree.{Tree}
-use Rattle.grammar.specs.Grammar.{Sum, sum_tree, Derives, Continues}
+use Rattle.grammar.specs.Several.{Terms, terms_trees, Kind, Derives, Continues}
 
 pub data Fault : Type 0 where
   unexpected_at : ℕ → Fault
@@ -21,10 +21,10 @@ flaw_at unknown_name at = unknown_name_at at
 flaw_at literal_too_large at = literal_too_large_at at
 
 -- the fault of a token behind these, where it has none of its own
-abbrev pub IsMisfit : List Placed → Token → ℕ → Fault → Type 0
-IsMisfit ts t at fault =
+abbrev pub IsMisfit : Kind → List Placed → Token → ℕ → Fault → Type 0
+IsMisfit kind ts t at fault =
     (IsOver64 (open_parentheses [] ts) t × (fault ≡ nesting_at at))
-    ⊎ ((¬ (IsOver64 (open_parentheses [] ts) t)) × (¬ (Continues (ts ++ (at, t) ∷ []))) × (fault ≡ unexpected_at at))
+    ⊎ ((¬ (IsOver64 (open_parentheses [] ts) t)) × (¬ (Continues kind (ts ++ (at, t) ∷ []))) × (fault ≡ unexpected_at at))
 
 -- the fault of an end behind these tokens
 abbrev pub end_fault : List Placed → List ℕ → ℕ → Fault
@@ -33,22 +33,23 @@ end_fault ts [] length = unexpected_at length
 end_fault ts (at ∷ more) length = unclosed_at at
 
 -- tokens and then a fault
-abbrev pub IsFaultBehind : List ℕ → List Placed → ℕ → Front → Fault → Type 0
-IsFaultBehind text ts at (flawed flaw) fault = fault ≡ flaw_at flaw at
-IsFaultBehind text ts at (token t len) fault = IsMisfit ts t at fault
-IsFaultBehind text ts at at_end fault =
-    ((s : Sum) → ¬ (Derives ts s)) × (fault ≡ end_fault ts (open_parentheses [] ts) (length text))
+abbrev pub IsFaultBehind : Kind → List ℕ → List Placed → ℕ → Front → Fault → Type 0
+IsFaultBehind kind text ts at (flawed flaw) fault = fault ≡ flaw_at flaw at
+IsFaultBehind kind text ts at (token t len) fault = IsMisfit kind ts t at fault
+IsFaultBehind kind text ts at at_end fault =
+    ((s : Terms) → ¬ (Derives kind ts s)) × (fault ≡ end_fault ts (open_parentheses [] ts) (length text))
 
 -- tokens that were read and fit: some text goes on from them
-pub record AreFitting (text : List ℕ) (ts : List Placed) (end : ℕ) : Type 0 where
+pub record AreFitting (kind : Kind) (text : List ℕ) (ts : List Placed) (end : ℕ) : Type 0 where
   pub are_next : HasTokens text 0 ts end
   pub nested : IsNested64 [] ts
-  pub continued : Continues ts
+  pub continued : Continues kind ts
 
-abbrev pub IsFirstFault : List ℕ → Fault → Type 0
-IsFirstFault text fault = (ts : List Placed) × (end : ℕ) × AreFitting text ts end
-    × IsFaultBehind text ts (past_spaces text end) (next_front text end) fault
+abbrev pub IsFirstFault : Kind → List ℕ → Fault → Type 0
+IsFirstFault kind text fault = (ts : List Placed) × (end : ℕ) × AreFitting kind text ts end
+    × IsFaultBehind kind text ts (past_spaces text end) (next_front text end) fault
 
-abbrev pub IsTreeOf : List ℕ → Tree → Type 0
-IsTreeOf text t = (ts : List Placed) × (end : ℕ) × AreFitting text ts end × (next_front text end ≡ at_end)
-    × (s : Sum) × Derives ts s × (t ≡ sum_tree s)
+-- the trees of its terms in their order
+abbrev pub HasTrees : Kind → List ℕ → List Tree → Type 0
+HasTrees kind text trees = (ts : List Placed) × (end : ℕ) × AreFitting kind text ts end × (next_front text end ≡ at_end)
+    × (s : Terms) × Derives kind ts s × (trees ≡ terms_trees s)

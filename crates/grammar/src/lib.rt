@@ -5,7 +5,8 @@ ghost use Rattle.std.specs.Prelude.{◌≡◌, [], ◌++◌, ℕ, List};
 ghost use Rattle.grammar.specs.Token.{Placed};
 ghost use Rattle.hypergeometric.specs.Tree.{Tree};
 ghost use Rattle.grammar.specs.Grammar.{Sum, sum_text};
-ghost use Rattle.grammar.specs.Reading.{Fault, IsTreeOf, IsFirstFault};
+ghost use Rattle.grammar.specs.Several.{Kind};
+ghost use Rattle.grammar.specs.Reading.{Fault, HasTrees, IsFirstFault};
 
 /// `sum_text s rest` is the text of `s` and then `rest`.
 pub fn text_in_front()
@@ -17,9 +18,9 @@ pub fn one_derivation()
     ensures { (s t : Sum) → sum_text s [] ≡ sum_text t [] → s ≡ t }
 {}
 
-/// A text has one tree, or else one first fault.
+/// A text of a kind has its trees, or else one first fault.
 pub fn one_outcome()
-    ensures tree { (text : List ℕ) (t u : Tree) → IsTreeOf text t → IsTreeOf text u → t ≡ u }
-    ensures apart { (text : List ℕ) (t : Tree) (fault : Fault) → IsTreeOf text t → ¬ (IsFirstFault text fault) }
-    ensures fault { (text : List ℕ) (f g : Fault) → IsFirstFault text f → IsFirstFault text g → f ≡ g }
+    ensures trees { (kind : Kind) (text : List ℕ) (t u : List Tree) → HasTrees kind text t → HasTrees kind text u → t ≡ u }
+    ensures apart { (kind : Kind) (text : List ℕ) (t : List Tree) (fault : Fault) → HasTrees kind text t → ¬ (IsFirstFault kind text fault) }
+    ensures fault { (kind : Kind) (text : List ℕ) (f g : Fault) → IsFirstFault kind text f → IsFirstFault kind text g → f ≡ g }
 {}

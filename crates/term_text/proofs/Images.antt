@@ -19,7 +19,7 @@ pub split_last-snoc : (os : List Outer) (o : Outer) → split_last (os ++ o ∷ 
 split_last-snoc [] o = refl
 split_last-snoc (p ∷ os) o = ap (with_first p) (split_last-snoc os o)
 
-snoc_not_empty : {A : Type 0} (xs : List A) (x : A) → is_empty (xs ++ x ∷ []) ≡ false
+pub snoc_not_empty : {A : Type 0} (xs : List A) (x : A) → is_empty (xs ++ x ∷ []) ≡ false
 snoc_not_empty [] x = refl
 snoc_not_empty (y ∷ xs) x = refl
 

@@ -11,4 +11,6 @@ pub mod Views
 pub mod Images
 pub mod Trees
 pub mod Literals
+pub mod SeveralImages
 pub mod Turns
+pub mod Counts

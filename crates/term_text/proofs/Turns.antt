@@ -1,5 +1,5 @@
 -- One turn of the reader.
-use Rattle.std.proofs.Common.{◌≡◌, ℕ, ◌+◌, ◌-◌, Bool, true, false, suc, List, [], ◌∷◌, ◌++◌, Option, Some, None, Result, Ok, Err, refl, ap, sym, ◌∙◌, subst, arith, length, take, drop}
+use Rattle.std.proofs.Common.{◌≡◌, ℕ, ◌+◌, ◌-◌, Bool, true, false, suc, List, [], ◌∷◌, ◌++◌, Option, Some, None, Result, Ok, Err, refl, ap, sym, ◌∙◌, subst, arith, length, take, drop, map}
 use Rattle.std.specs.Prelude.{if◌then◌else◌, ◌&&◌, ◌==◌}
 use Rattle.std.proofs.lemmas.List.{length-append}
 use Rattle.std.proofs.lemmas.Bool.{eqb-true}
@@ -7,10 +7,12 @@ use Rattle.grammar.specs.Token as t
 use Rattle.grammar.specs.Tokens as k
 use Rattle.grammar.specs.Grammar.{Sum, Power}
 use Rattle.grammar.specs.Reading as r
-use Rattle.grammar.specs.State as g
-use Rattle.grammar.proofs.Prefixes.{accepted}
+use Rattle.grammar.specs.Several.{Terms, terms_text, terms_trees}
+use Rattle.grammar.specs.Several as g_kind
+use Rattle.grammar.specs.States as g
+use Rattle.grammar.proofs.TermKinds.{accepted, goes_on}
 use Rattle.grammar.proofs.SmallLiterals.{AreSmall, small_tokens}
-use Rattle.grammar.proofs.Fitting.{run_snoc, open_snoc, fitting_start, fitting_more, fault_flawed, fault_nesting, fault_unexpected, fault_end, tree_at_end}
+use Rattle.grammar.proofs.Fitting.{run_snoc, open_snoc, fitting_start, fitting_more, fault_flawed, fault_nesting, fault_unexpected, fault_end, trees_at_end}
 use Rattle.term_text.specs.declared.ast.Ast.{Ast}
 use Rattle.term_text.specs.declared.state.Token.{Token}
 use Rattle.term_text.specs.declared.state.Outer.{Outer}
@@ -24,9 +26,12 @@ use Rattle.term_text.specs.Steps.{is_empty, step}
 use Rattle.term_text.specs.Image.{sum_ast, power_ast, level_image, outer_image, stack_image, last_image, image, token_image, image_of}
 use Rattle.term_text.specs.Fronts.{front_image, flaw_image}
 use Rattle.term_text.specs.View.{tree_of}
-use Rattle.term_text.specs.Progress.{Reads, start, without_last, placed, is_opening, taken_state, taken, fault_of_flaw, last_of, end_fault, Fails, whole_at, whole, ended, places_image, IsAfter}
-use Rattle.term_text.proofs.Images.{step_image, whole_image}
-use Rattle.term_text.proofs.Trees.{tree_of_sum}
+use Rattle.term_text.specs.declared.several.Kind.{Kind}
+use Rattle.term_text.specs.declared.several.Several.{Several}
+use Rattle.term_text.specs.SeveralSteps.{whole_terms, step_several}
+use Rattle.term_text.specs.SeveralImage.{kind_of, several_image, several_image_of, asts_of}
+use Rattle.term_text.specs.Progress.{HasFault, start, without_last, placed, is_opening, taken_state, taken, fault_of_flaw, last_of, end_fault, Fails, ended, places_image, IsAfter}
+use Rattle.term_text.proofs.SeveralImages.{several_step, whole_terms_is, trees_of_terms}
 
 pub last_of-snoc : (ps : List ℕ) (a : ℕ) → last_of (ps ++ a ∷ []) ≡ Some a
 last_of-snoc [] a = refl
@@ -99,19 +104,19 @@ snoc_is_not_empty : {A : Type 0} (xs : List A) (x : A) → false ≡ is_empty (x
 snoc_is_not_empty [] x = refl
 snoc_is_not_empty (y ∷ xs) x = refl
 
-abbrev pub TakenIs : List ℕ → List t.Placed → ℕ → Result Progress TextFault → Type 0
-TakenIs text ts end (Ok next) = IsAfter text next ts × (next.from ≡ end)
-TakenIs text ts end (Err e) = Reads text (Err e)
+abbrev pub TakenIs : g_kind.Kind → List ℕ → List t.Placed → ℕ → Result Progress TextFault → Type 0
+TakenIs kind text ts end (Ok next) = IsAfter kind text next ts × (next.from ≡ end)
+TakenIs kind text ts end (Err e) = HasFault kind text e
 
-module _ (text : List ℕ) (p : Progress) (ts : List t.Placed) (at len : ℕ) (x : t.Token)
-    (a : IsAfter text p ts) (place : at ≡ k.past_spaces text p.from) (next : k.next_front text p.from ≡ k.token x len) where
-  by_state : (n : Option g.State) → g.step a.reached.0 at x ≡ n → ¬ (t.IsOver64 (t.open_parentheses [] ts) x) →
-      TakenIs text (ts ++ (at, x) ∷ []) (at + len) (taken_state (image_of n) (placed p.places (token_image x) at) at (at + len))
-  by_state None e fine = fault_unexpected text ts p.from at len x a.reached.0 a.fits a.reached.1 place next fine e
+module _ (kind : Kind) (text : List ℕ) (p : Progress) (ts : List t.Placed) (at len : ℕ) (x : t.Token)
+    (a : IsAfter (kind_of kind) text p ts) (place : at ≡ k.past_spaces text p.from) (next : k.next_front text p.from ≡ k.token x len) where
+  by_state : (n : Option g.States) → g.step_terms (kind_of kind) a.reached.0 at x ≡ n → ¬ (t.IsOver64 (t.open_parentheses [] ts) x) →
+      TakenIs (kind_of kind) text (ts ++ (at, x) ∷ []) (at + len) (taken_state (several_image_of n) (placed p.places (token_image x) at) at (at + len))
+  by_state None e fine = fault_unexpected (kind_of kind) text ts p.from at len x a.reached.0 a.fits a.reached.1 place next fine e
   by_state (Some s) e fine = (
     record {
-      fits = fitting_more text ts p.from at len x a.reached.0 s a.fits a.reached.1 place next fine e;
-      reached = (s, run_snoc g.begin ts a.reached.0 (at, x) a.reached.1 ∙ e, refl);
+      fits = fitting_more (kind_of kind) text ts p.from at len x a.reached.0 s a.fits a.reached.1 place next fine e;
+      reached = (s, run_snoc (kind_of kind) g.start ts a.reached.0 (at, x) a.reached.1 ∙ e, refl);
       places = ap (λ z. placed z (token_image x) at) a.places ∙ placed_image (t.open_parentheses [] ts) x at ∙ ap places_image (sym (open_snoc [] ts (at, x)));
       empty = snoc_is_not_empty ts (at, x);
     },
@@ -119,57 +124,45 @@ module _ (text : List ℕ) (p : Progress) (ts : List t.Placed) (at len : ℕ) (x
   )
 
   by_guard : (b : Bool) → (is_opening (token_image x) && length p.places == 64) ≡ b →
-      TakenIs text (ts ++ (at, x) ∷ []) (at + len)
-      (if b then Err (Nesting at) else taken_state (step p.state (token_image x) at) (placed p.places (token_image x) at) at (at + len))
-  by_guard true e = fault_nesting text ts p.from at len x a.fits place next
+      TakenIs (kind_of kind) text (ts ++ (at, x) ∷ []) (at + len)
+      (if b then Err (Nesting at) else taken_state (step_several kind p.several (token_image x) at) (placed p.places (token_image x) at) at (at + len))
+  by_guard true e = fault_nesting (kind_of kind) text ts p.from at len x a.fits place next
       (guard_true x (t.open_parentheses [] ts) (length p.places) (ap length a.places ∙ places_length (t.open_parentheses [] ts)) e)
   by_guard false e =
-      subst (λ o. TakenIs text (ts ++ (at, x) ∷ []) (at + len) (taken_state o (placed p.places (token_image x) at) at (at + len)))
-      (sym (ap (λ s. step s (token_image x) at) a.reached.2 ∙ step_image a.reached.0 at x))
-      (by_state (g.step a.reached.0 at x) refl (guard_false x (t.open_parentheses [] ts) (length p.places) (ap length a.places ∙ places_length (t.open_parentheses [] ts)) e))
+      subst (λ o. TakenIs (kind_of kind) text (ts ++ (at, x) ∷ []) (at + len) (taken_state o (placed p.places (token_image x) at) at (at + len)))
+      (sym (ap (λ s. step_several kind s (token_image x) at) a.reached.2 ∙ several_step kind a.reached.0 at x))
+      (by_state (g.step_terms (kind_of kind) a.reached.0 at x) refl (guard_false x (t.open_parentheses [] ts) (length p.places) (ap length a.places ∙ places_length (t.open_parentheses [] ts)) e))
 
-  pub taken_is : TakenIs text (ts ++ (at, x) ∷ []) (at + len) (taken p (token_image x) at (at + len))
+  pub taken_is : TakenIs (kind_of kind) text (ts ++ (at, x) ∷ []) (at + len) (taken kind p (token_image x) at (at + len))
   taken_is = by_guard (is_opening (token_image x) && length p.places == 64) refl
 
 -- the end
-whole_open : (s : g.BeforeProduct) (p : g.BeforePower) (w : Power) (os : List Outer) (o : Outer) →
-    whole_at (stage.More (power_ast w) (last_image w)) (level_image s p g.at_base) (os ++ o ∷ []) ≡ None
-whole_open s p w [] o = refl
-whole_open s p w (q ∷ os) o = refl
+abbrev pub EndIs : g_kind.Kind → List ℕ → Result (List Ast) TextFault → Type 0
+EndIs kind text (Ok terms) = r.HasTrees kind text (map tree_of terms)
+EndIs kind text (Err e) = HasFault kind text e
 
-abbrev ast_of : Option Sum → Option Ast
-ast_of None = None
-ast_of (Some s) = Some (sum_ast s)
+ending : (kind : g_kind.Kind) (text : List ℕ) (ts : List t.Placed) (ps : List ℕ) (n : ℕ) → r.IsFirstFault kind text (r.end_fault ts ps n) → HasFault kind text (end_fault (places_image ps) (is_empty ts) n)
+ending kind text [] ps n h = h
+ending kind text (x ∷ ts) [] n h = h
+ending kind text (x ∷ ts) (a ∷ ps) n h =
+    subst (λ o. HasFault kind text (elim o as (λ _. TextFault) [ None ↦ Unexpected n | Some at ↦ UnclosedParen at ])) (sym (last_of-snoc (places_image ps) a)) h
 
-whole_is : (s : g.State) → whole (image s) ≡ ast_of (g.finished s)
-whole_is (g.has_power s p w []) = ap Some (whole_image s p g.at_base w)
-whole_is (g.has_power s p w (o ∷ st)) = whole_open s p w (stack_image st) (outer_image o)
-whole_is (g.wants_atom l st) = refl
-whole_is (g.wants_opening n l st) = refl
-
-abbrev pub EndIs : List ℕ → Result Ast TextFault → Type 0
-EndIs text (Ok a) = r.IsTreeOf text (tree_of a)
-EndIs text (Err e) = Reads text (Err e)
-
-ending : (text : List ℕ) (ts : List t.Placed) (ps : List ℕ) (n : ℕ) → r.IsFirstFault text (r.end_fault ts ps n) → Reads text (Err (end_fault (places_image ps) (is_empty ts) n))
-ending text [] ps n h = h
-ending text (x ∷ ts) [] n h = h
-ending text (x ∷ ts) (a ∷ ps) n h = subst (λ o. Reads text (Err (elim o as (λ _. TextFault) [ None ↦ Unexpected n | Some at ↦ UnclosedParen at ]))) (sym (last_of-snoc (places_image ps) a)) h
-
-pub ended_is : (text : List ℕ) (p : Progress) (ts : List t.Placed) → IsAfter text p ts → k.next_front text p.from ≡ k.at_end → EndIs text (ended p (length text))
-ended_is text p ts a e =
-    subst (λ o. EndIs text (elim o as (λ _. Result Ast TextFault) [ Some a ↦ Ok a | None ↦ Err (end_fault p.places p.empty (length text)) ]))
-    (sym (ap whole a.reached.2 ∙ whole_is a.reached.0)) (go (g.finished a.reached.0) refl)
+pub ended_is : (kind : Kind) (text : List ℕ) (p : Progress) (ts : List t.Placed) → IsAfter (kind_of kind) text p ts → k.next_front text p.from ≡ k.at_end →
+    EndIs (kind_of kind) text (ended kind p (length text))
+ended_is kind text p ts a e =
+    subst (λ o. EndIs (kind_of kind) text (elim o as (λ _. Result (List Ast) TextFault) [ Some a ↦ Ok a | None ↦ Err (end_fault p.places p.empty (length text)) ]))
+    (sym (ap (whole_terms kind) a.reached.2 ∙ whole_terms_is kind a.reached.0 (goes_on (kind_of kind) ts a.reached.0 a.reached.1)))
+    (go (g.finished_terms (kind_of kind) a.reached.0) refl)
   where
-    go : (o : Option Sum) → g.finished a.reached.0 ≡ o →
-        EndIs text (elim (ast_of o) as (λ _. Result Ast TextFault) [ Some a ↦ Ok a | None ↦ Err (end_fault p.places p.empty (length text)) ])
-    go (Some s) f =
-        let derived = accepted ts a.reached.0 s a.reached.1 f in
-        let small = subst AreSmall derived (small_tokens text 0 ts p.from a.fits.are_next) in
-        subst (r.IsTreeOf text) (sym (tree_of_sum s [] small)) (tree_at_end text ts p.from a.reached.0 s a.fits a.reached.1 e f)
-    go None f = subst (λ ps. Reads text (Err (end_fault ps p.empty (length text)))) (sym a.places)
-        (subst (λ b. Reads text (Err (end_fault (places_image (t.open_parentheses [] ts)) b (length text)))) (sym a.empty)
-        (ending text ts (t.open_parentheses [] ts) (length text) (fault_end text ts p.from a.reached.0 a.fits a.reached.1 e f)))
+    go : (o : Option Terms) → g.finished_terms (kind_of kind) a.reached.0 ≡ o →
+        EndIs (kind_of kind) text (elim (asts_of o) as (λ _. Result (List Ast) TextFault) [ Some a ↦ Ok a | None ↦ Err (end_fault p.places p.empty (length text)) ])
+    go (Some c) f =
+        let derived = accepted (kind_of kind) ts a.reached.0 c a.reached.1 f in
+        let small = subst AreSmall derived.text (small_tokens text 0 ts p.from a.fits.are_next) in
+        subst (r.HasTrees (kind_of kind) text) (sym (trees_of_terms c [] small)) (trees_at_end (kind_of kind) text ts p.from a.reached.0 c a.fits a.reached.1 e f)
+    go None f = subst (λ ps. HasFault (kind_of kind) text (end_fault ps p.empty (length text))) (sym a.places)
+        (subst (λ b. HasFault (kind_of kind) text (end_fault (places_image (t.open_parentheses [] ts)) b (length text))) (sym a.empty)
+        (ending (kind_of kind) text ts (t.open_parentheses [] ts) (length text) (fault_end (kind_of kind) text ts p.from a.reached.0 a.fits a.reached.1 e f)))
 
 -- what the code's front says of the definition's
 pub front_token : (x : k.Front) (y : Token) (len : ℕ) → front.Token y len ≡ front_image x → (z : t.Token) × (x ≡ k.token z len) × (y ≡ token_image z)
@@ -208,54 +201,54 @@ front_end (k.flawed z) e = absurd (differ e)
     differ : front.End ≡ front.Flawed (flaw_image z) → ⊥
     differ d = cc
 
-pub flawed_is : (text : List ℕ) (ts : List t.Placed) (end at : ℕ) (z : k.Flaw) → r.AreFitting text ts end → at ≡ k.past_spaces text end →
-    k.next_front text end ≡ k.flawed z → Reads text (Err (fault_of_flaw (flaw_image z) at))
-flawed_is text ts end at k.strange fit a f = fault_flawed text ts end at k.strange fit a f
-flawed_is text ts end at k.not_ascii fit a f = fault_flawed text ts end at k.not_ascii fit a f
-flawed_is text ts end at k.unknown_name fit a f = fault_flawed text ts end at k.unknown_name fit a f
-flawed_is text ts end at k.literal_too_large fit a f = fault_flawed text ts end at k.literal_too_large fit a f
+pub flawed_is : (kind : g_kind.Kind) (text : List ℕ) (ts : List t.Placed) (end at : ℕ) (z : k.Flaw) → r.AreFitting kind text ts end → at ≡ k.past_spaces text end →
+    k.next_front text end ≡ k.flawed z → HasFault kind text (fault_of_flaw (flaw_image z) at)
+flawed_is kind text ts end at k.strange fit a f = fault_flawed kind text ts end at k.strange fit a f
+flawed_is kind text ts end at k.not_ascii fit a f = fault_flawed kind text ts end at k.not_ascii fit a f
+flawed_is kind text ts end at k.unknown_name fit a f = fault_flawed kind text ts end at k.unknown_name fit a f
+flawed_is kind text ts end at k.literal_too_large fit a f = fault_flawed kind text ts end at k.literal_too_large fit a f
 
-pub after_start : (text : List ℕ) → IsAfter text start []
-after_start text = record { fits = fitting_start text; reached = (g.begin, refl, refl); places = refl; empty = refl }
+pub after_start : (kind : g_kind.Kind) (text : List ℕ) → IsAfter kind text start []
+after_start kind text = record { fits = fitting_start kind text; reached = (g.start, refl, refl); places = refl; empty = refl }
 
 -- a fault that a call answered
-pub fails_reads : {A : Type 0} (text : List ℕ) (P : Result A TextFault → Type 0) → ((e : TextFault) → P (Err e) → Reads text (Err e)) →
-    (e : TextFault) (read : Result A TextFault) → Fails e read → P read → Reads text (Err e)
-fails_reads text P as_read Memory read h p = tt
-fails_reads text P as_read (Unexpected at) read h p = as_read (Unexpected at) (subst P h p)
-fails_reads text P as_read (UnknownName at) read h p = as_read (UnknownName at) (subst P h p)
-fails_reads text P as_read (UnclosedParen at) read h p = as_read (UnclosedParen at) (subst P h p)
-fails_reads text P as_read EmptyInput read h p = as_read EmptyInput (subst P h p)
-fails_reads text P as_read (NotAscii at) read h p = as_read (NotAscii at) (subst P h p)
-fails_reads text P as_read (Nesting at) read h p = as_read (Nesting at) (subst P h p)
-fails_reads text P as_read (LiteralTooLarge at) read h p = as_read (LiteralTooLarge at) (subst P h p)
+pub fails_reads : {A : Type 0} (kind : g_kind.Kind) (text : List ℕ) (P : Result A TextFault → Type 0) → ((e : TextFault) → P (Err e) → HasFault kind text e) →
+    (e : TextFault) (read : Result A TextFault) → Fails e read → P read → HasFault kind text e
+fails_reads kind text P as_read Memory read h p = tt
+fails_reads kind text P as_read (Unexpected at) read h p = as_read (Unexpected at) (subst P h p)
+fails_reads kind text P as_read (UnknownName at) read h p = as_read (UnknownName at) (subst P h p)
+fails_reads kind text P as_read (UnclosedParen at) read h p = as_read (UnclosedParen at) (subst P h p)
+fails_reads kind text P as_read EmptyInput read h p = as_read EmptyInput (subst P h p)
+fails_reads kind text P as_read (NotAscii at) read h p = as_read (NotAscii at) (subst P h p)
+fails_reads kind text P as_read (Nesting at) read h p = as_read (Nesting at) (subst P h p)
+fails_reads kind text P as_read (LiteralTooLarge at) read h p = as_read (LiteralTooLarge at) (subst P h p)
 
-pub ended_fails : (text : List ℕ) (e : TextFault) (read : Result Ast TextFault) → Fails e read → EndIs text read → Reads text (Err e)
-ended_fails text = fails_reads text (EndIs text) (λ e h. h)
+pub ended_fails : (kind : g_kind.Kind) (text : List ℕ) (e : TextFault) (read : Result (List Ast) TextFault) → Fails e read → EndIs kind text read → HasFault kind text e
+ended_fails kind text = fails_reads kind text (EndIs kind text) (λ e h. h)
 
-pub taken_fails : (text : List ℕ) (ts : List t.Placed) (end : ℕ) (e : TextFault) (read : Result Progress TextFault) → Fails e read → TakenIs text ts end read → Reads text (Err e)
-taken_fails text ts end = fails_reads text (TakenIs text ts end) (λ e h. h)
+pub taken_fails : (kind : g_kind.Kind) (text : List ℕ) (ts : List t.Placed) (end : ℕ) (e : TextFault) (read : Result Progress TextFault) → Fails e read → TakenIs kind text ts end read → HasFault kind text e
+taken_fails kind text ts end = fails_reads kind text (TakenIs kind text ts end) (λ e h. h)
 
 -- what stands next, at the place where the spaces end
 pub at_place : (text : List ℕ) (from at : ℕ) → at ≡ k.past_spaces text from → (x : k.Front) → k.front (drop at text) ≡ x → k.next_front text from ≡ x
 at_place text from at e x f = ap (λ z. k.front (drop z text)) (sym e) ∙ f
 
 -- a token that was taken in, whatever the code calls it
-pub turn_token : (text : List ℕ) (p : Progress) (ts : List t.Placed) (at len : ℕ) (y : Token) → IsAfter text p ts → at ≡ k.past_spaces text p.from →
-    front.Token y len ≡ front_image (k.front (drop at text)) → (x : t.Token) × TakenIs text (ts ++ (at, x) ∷ []) (at + len) (taken p y at (at + len))
-turn_token text p ts at len y a place f =
+pub turn_token : (kind : Kind) (text : List ℕ) (p : Progress) (ts : List t.Placed) (at len : ℕ) (y : Token) → IsAfter (kind_of kind) text p ts → at ≡ k.past_spaces text p.from →
+    front.Token y len ≡ front_image (k.front (drop at text)) → (x : t.Token) × TakenIs (kind_of kind) text (ts ++ (at, x) ∷ []) (at + len) (taken kind p y at (at + len))
+turn_token kind text p ts at len y a place f =
     let z = front_token (k.front (drop at text)) y len f in (
       z.0,
-      subst (λ w. TakenIs text (ts ++ (at, z.0) ∷ []) (at + len) (taken p w at (at + len))) (sym z.2)
-          (taken_is text p ts at len z.0 a place (at_place text p.from at place (k.token z.0 len) z.1)),
+      subst (λ w. TakenIs (kind_of kind) text (ts ++ (at, z.0) ∷ []) (at + len) (taken kind p w at (at + len))) (sym z.2)
+          (taken_is kind text p ts at len z.0 a place (at_place text p.from at place (k.token z.0 len) z.1)),
     )
 
-pub turn_end : (text : List ℕ) (p : Progress) (ts : List t.Placed) (at : ℕ) → IsAfter text p ts → at ≡ k.past_spaces text p.from →
-    front.End ≡ front_image (k.front (drop at text)) → EndIs text (ended p (length text))
-turn_end text p ts at a place f = ended_is text p ts a (at_place text p.from at place k.at_end (front_end (k.front (drop at text)) f))
+pub turn_end : (kind : Kind) (text : List ℕ) (p : Progress) (ts : List t.Placed) (at : ℕ) → IsAfter (kind_of kind) text p ts → at ≡ k.past_spaces text p.from →
+    front.End ≡ front_image (k.front (drop at text)) → EndIs (kind_of kind) text (ended kind p (length text))
+turn_end kind text p ts at a place f = ended_is kind text p ts a (at_place text p.from at place k.at_end (front_end (k.front (drop at text)) f))
 
-pub turn_flawed : (text : List ℕ) (p : Progress) (ts : List t.Placed) (at : ℕ) (y : Flaw) → IsAfter text p ts → at ≡ k.past_spaces text p.from →
-    front.Flawed y ≡ front_image (k.front (drop at text)) → Reads text (Err (fault_of_flaw y at))
-turn_flawed text p ts at y a place f =
+pub turn_flawed : (kind : Kind) (text : List ℕ) (p : Progress) (ts : List t.Placed) (at : ℕ) (y : Flaw) → IsAfter (kind_of kind) text p ts → at ≡ k.past_spaces text p.from →
+    front.Flawed y ≡ front_image (k.front (drop at text)) → HasFault (kind_of kind) text (fault_of_flaw y at)
+turn_flawed kind text p ts at y a place f =
     let z = front_flawed (k.front (drop at text)) y f in
-    subst (λ w. Reads text (Err (fault_of_flaw w at))) (sym z.2) (flawed_is text ts p.from at z.0 a.fits place (at_place text p.from at place (k.flawed z.0) z.1))
+    subst (λ w. HasFault (kind_of kind) text (fault_of_flaw w at)) (sym z.2) (flawed_is (kind_of kind) text ts p.from at z.0 a.fits place (at_place text p.from at place (k.flawed z.0) z.1))

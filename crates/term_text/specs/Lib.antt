@@ -6,5 +6,7 @@ pub mod View
 pub mod Literals
 pub mod Steps
 pub mod Image
+pub mod SeveralSteps
+pub mod SeveralImage
 pub mod Fronts
 pub mod Progress

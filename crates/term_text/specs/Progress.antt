@@ -1,8 +1,9 @@
--- How far a text is read, and what reading gives.
-use Rattle.std.specs.Prelude.{ℕ, Bool, true, false, ◌&&◌, ◌==◌, ◌-◌, ◌≡◌, ◌≤◌, ◌<◌, List, [], ◌∷◌, ◌++◌, length, take, Option, Some, None, Result, Ok, Err, if◌then◌else◌}
+-- How far a text of a kind is read, and what reading gives.
+use Rattle.std.specs.Prelude.{ℕ, Bool, true, false, ◌&&◌, ◌==◌, ◌-◌, ◌≡◌, ◌≤◌, ◌<◌, List, [], ◌∷◌, ◌++◌, length, take, map, Option, Some, None, Result, Ok, Err, if◌then◌else◌}
 use Rattle.grammar.specs.Token as t
 use Rattle.grammar.specs.Reading as r
-use Rattle.grammar.specs.State as g
+use Rattle.grammar.specs.Several as k
+use Rattle.grammar.specs.States as g
 use Rattle.term_text.specs.declared.ast.Ast.{Ast}
 use Rattle.term_text.specs.declared.state.Token.{Token}
 use Rattle.term_text.specs.declared.state.Token.TheVariants as token
@@ -18,21 +19,37 @@ use Rattle.term_text.specs.declared.fault.TextFault.TheVariants.{Unexpected, Unk
 use Rattle.term_text.specs.declared.read.Progress.{Progress}
 use Rattle.term_text.specs.declared.read.Turn.{Turn}
 use Rattle.term_text.specs.declared.read.Turn.TheVariants as turn
-use Rattle.term_text.specs.Steps.{is_empty, empty_level, whole_sum, step}
-use Rattle.term_text.specs.Image.{image}
+use Rattle.term_text.specs.Steps.{is_empty}
+use Rattle.term_text.specs.SeveralSteps.{begin, whole_terms, step_several}
+use Rattle.term_text.specs.SeveralImage.{several_image}
+use Rattle.term_text.specs.declared.several.Kind.{Kind}
+use Rattle.term_text.specs.declared.several.Several.{Several}
 use Rattle.term_text.specs.View.{tree_of}
 
--- The reader's contract.
-abbrev pub Reads : List ℕ → Result Ast TextFault → Type 0
-Reads text (Ok a) = r.IsTreeOf text (tree_of a)
-Reads text (Err (Unexpected at)) = r.IsFirstFault text (r.unexpected_at at)
-Reads text (Err (UnknownName at)) = r.IsFirstFault text (r.unknown_name_at at)
-Reads text (Err (UnclosedParen at)) = r.IsFirstFault text (r.unclosed_at at)
-Reads text (Err EmptyInput) = r.IsFirstFault text r.empty_input
-Reads text (Err (NotAscii at)) = r.IsFirstFault text (r.not_ascii_at at)
-Reads text (Err (Nesting at)) = r.IsFirstFault text (r.nesting_at at)
-Reads text (Err (LiteralTooLarge at)) = r.IsFirstFault text (r.literal_too_large_at at)
-Reads text (Err Memory) = Unit {0}
+-- The first fault of a text of a kind, in the code's words. Memory may be refused at any text.
+abbrev pub HasFault : k.Kind → List ℕ → TextFault → Type 0
+HasFault kind text (Unexpected at) = r.IsFirstFault kind text (r.unexpected_at at)
+HasFault kind text (UnknownName at) = r.IsFirstFault kind text (r.unknown_name_at at)
+HasFault kind text (UnclosedParen at) = r.IsFirstFault kind text (r.unclosed_at at)
+HasFault kind text EmptyInput = r.IsFirstFault kind text r.empty_input
+HasFault kind text (NotAscii at) = r.IsFirstFault kind text (r.not_ascii_at at)
+HasFault kind text (Nesting at) = r.IsFirstFault kind text (r.nesting_at at)
+HasFault kind text (LiteralTooLarge at) = r.IsFirstFault kind text (r.literal_too_large_at at)
+HasFault kind text Memory = Unit {0}
+
+-- the terms of a text, or its first fault
+abbrev pub ReadsTerms : k.Kind → List ℕ → Result (List Ast) TextFault → Type 0
+ReadsTerms kind text (Ok terms) = r.HasTrees kind text (map tree_of terms)
+ReadsTerms kind text (Err e) = HasFault kind text e
+
+-- The contracts of the readers.
+abbrev pub ReadsTerm : List ℕ → Result Ast TextFault → Type 0
+ReadsTerm text (Ok a) = r.HasTrees k.a_term text (tree_of a ∷ [])
+ReadsTerm text (Err e) = HasFault k.a_term text e
+
+abbrev pub ReadsPair : List ℕ → Result (Ast × Ast) TextFault → Type 0
+ReadsPair text (Ok p) = r.HasTrees k.a_pair text (tree_of p.0 ∷ tree_of p.1 ∷ [])
+ReadsPair text (Err e) = HasFault k.a_pair text e
 
 -- what a call gives unless memory runs out
 abbrev pub Fails : {A : Type 0} → TextFault → Result A TextFault → Type 0
@@ -44,7 +61,7 @@ Gives (Ok x) read = read ≡ Ok x
 Gives (Err e) read = Fails e read
 
 abbrev pub start : Progress
-start = record { from = 0; state = record { stage = stage.Atom; level = empty_level; outer = [] }; places = []; empty = true }
+start = record { from = 0; several = record { before = []; now = begin }; places = []; empty = true }
 
 abbrev pub without_last : List ℕ → List ℕ
 without_last ps = take (length ps - 1) ps
@@ -58,14 +75,14 @@ abbrev pub is_opening : Token → Bool
 is_opening token.Opening = true
 is_opening _ = false
 
-abbrev pub taken_state : Option State → List ℕ → ℕ → ℕ → Result Progress TextFault
+abbrev pub taken_state : Option Several → List ℕ → ℕ → ℕ → Result Progress TextFault
 taken_state None places at end = Err (Unexpected at)
-taken_state (Some s) places at end = Ok (record { from = end; state = s; places = places; empty = false })
+taken_state (Some s) places at end = Ok (record { from = end; several = s; places = places; empty = false })
 
-abbrev pub taken : Progress → Token → ℕ → ℕ → Result Progress TextFault
-taken p t at end =
+abbrev pub taken : Kind → Progress → Token → ℕ → ℕ → Result Progress TextFault
+taken kind p t at end =
     if is_opening t && length p.places == 64 then Err (Nesting at)
-    else taken_state (step p.state t at) (placed p.places t at) at end
+    else taken_state (step_several kind p.several t at) (placed p.places t at) at end
 
 abbrev pub fault_of_flaw : Flaw → ℕ → TextFault
 fault_of_flaw flaw.Strange at = Unexpected at
@@ -83,15 +100,8 @@ end_fault places empty len =
     if empty then EmptyInput
     else (elim (last_of places) as (λ _. TextFault) [ None ↦ Unexpected len | Some at ↦ UnclosedParen at ])
 
-abbrev pub whole_at : Stage → Level → List Outer → Option Ast
-whole_at (stage.More a e) l [] = Some (whole_sum l a)
-whole_at _ l outer = None
-
-abbrev pub whole : State → Option Ast
-whole s = whole_at s.stage s.level s.outer
-
-abbrev pub ended : Progress → ℕ → Result Ast TextFault
-ended p len = elim (whole p.state) as (λ _. Result Ast TextFault) [ Some a ↦ Ok a | None ↦ Err (end_fault p.places p.empty len) ]
+abbrev pub ended : Kind → Progress → ℕ → Result (List Ast) TextFault
+ended kind p len = elim (whole_terms kind p.several) as (λ _. Result (List Ast) TextFault) [ Some a ↦ Ok a | None ↦ Err (end_fault p.places p.empty len) ]
 
 -- the code's places of those of the definition, the last one last
 abbrev pub places_image : List ℕ → List ℕ
@@ -99,14 +109,14 @@ places_image [] = []
 places_image (at ∷ ps) = places_image ps ++ at ∷ []
 
 -- some tokens are read
-pub record IsAfter (text : List ℕ) (p : Progress) (ts : List t.Placed) : Type 0 where
-  pub fits : r.AreFitting text ts p.from
-  pub reached : (s : g.State) × (g.run g.begin ts ≡ Some s) × (p.state ≡ image s)
+pub record IsAfter (kind : k.Kind) (text : List ℕ) (p : Progress) (ts : List t.Placed) : Type 0 where
+  pub fits : r.AreFitting kind text ts p.from
+  pub reached : (m : g.States) × (g.run_terms kind g.start ts ≡ Some m) × (p.several ≡ several_image m)
   pub places : p.places ≡ places_image (t.open_parentheses [] ts)
   pub empty : p.empty ≡ is_empty ts
 
 -- What one turn gives.
-abbrev pub IsTurn : List ℕ → Progress → Result Turn TextFault → Type 0
-IsTurn text p (Ok (turn.Done a)) = r.IsTreeOf text (tree_of a)
-IsTurn text p (Ok (turn.More next)) = (ts : List t.Placed) × IsAfter text next ts × (p.from < next.from) × (next.from ≤ length text)
-IsTurn text p (Err e) = Reads text (Err e)
+abbrev pub IsTurn : k.Kind → List ℕ → Progress → Result Turn TextFault → Type 0
+IsTurn kind text p (Ok (turn.Done terms)) = r.HasTrees kind text (map tree_of terms)
+IsTurn kind text p (Ok (turn.More next)) = (ts : List t.Placed) × IsAfter kind text next ts × (p.from < next.from) × (next.from ≤ length text)
+IsTurn kind text p (Err e) = HasFault kind text e

@@ -19,11 +19,12 @@ mod front;
 mod mono;
 mod places;
 mod read;
+mod several;
 mod state;
 
 pub use ast::{Ast, Node, Part};
 pub use fault::TextFault;
-pub use read::read_term;
+pub use read::{read_pair, read_recurrence, read_term};
 use std::alloc::Global;
 
 /// A whole number other than 0, below 10^6 in magnitude, times a power of k from 0 to 4.

@@ -1,13 +1,16 @@
-//! Reading a term.
-ghost use Rattle.std.specs.Prelude.{◌≡◌, ◌≤◌, ◌<◌, ◌^◌, length, IfOk, IfErr, Some, None, ℕ, List};
+//! Reads a text of one term, of a pair or of a recurrence: its trees, or its first fault.
+ghost use Rattle.std.specs.Prelude.{◌≡◌, [], ◌∷◌, ◌≤◌, ◌<◌, ◌^◌, length, IfOk, IfErr, Some, None, ℕ, List};
 ghost use Rattle.grammar.specs.Token.{Placed};
-ghost use Rattle.term_text.specs.Progress.{start, placed, taken, Gives, fault_of_flaw, end_fault, whole, ended, IsAfter, IsTurn, Reads};
+ghost use Rattle.grammar.specs.Several.{a_recurrence};
+ghost use Rattle.term_text.specs.SeveralImage.{kind_of};
+ghost use Rattle.term_text.specs.Progress.{start, placed, taken, Gives, fault_of_flaw, end_fault, ended, IsAfter, IsTurn, ReadsTerms, ReadsTerm, ReadsPair};
 
 use crate::ast::Ast;
 use crate::fault::TextFault;
 use crate::front::{Flaw, Front, front_at, past_spaces};
 use crate::places::Places;
-use crate::state::{Last, Stage, State, Token, empty_level, whole_sum};
+use crate::several::{Kind, Several, begin};
+use crate::state::Token;
 use sqlite_items::Items;
 use std::alloc::{AllocError, Global};
 
@@ -18,7 +21,7 @@ const MAX_OPEN: usize = 64;
 #[derive(Drop)]
 struct Progress {
     from: usize,
-    state: State,
+    several: Several,
     places: Places,
     empty: bool,
 }
@@ -26,14 +29,13 @@ struct Progress {
 fn start(alloc: Global) -> Progress
     ensures { result ≡ start }
 {
-    let state = State {
-        stage: Stage::Atom,
-        level: empty_level(alloc),
-        outer: Items::new(alloc),
+    let several = Several {
+        before: Items::new(alloc),
+        now: begin(alloc),
     };
     Progress {
         from: 0,
-        state,
+        several,
         places: Places::new(alloc),
         empty: true,
     }
@@ -57,16 +59,17 @@ fn placed(places: Places, token: Token, at: u32) -> Result<Places, AllocError>
 /// Takes one token in.
 fn taken(
     alloc: Global,
+    kind: Kind,
     progress: Progress,
     token: Token,
     at: u32,
     end: usize,
 ) -> Result<Progress, TextFault>
-    ensures { Gives result (taken progress token at end) }
+    ensures { Gives result (taken kind progress token at end) }
 {
     let Progress {
         from: _,
-        state,
+        several,
         places,
         empty: _,
     } = progress;
@@ -74,11 +77,11 @@ fn taken(
         return Err(TextFault::Nesting { at });
     }
     let places = placed(places, token, at)?;
-    match state.step(alloc, token, at)? {
+    match several.step(alloc, kind, token, at)? {
         None => Err(TextFault::Unexpected { at }),
-        Some(state) => Ok(Progress {
+        Some(several) => Ok(Progress {
             from: end,
-            state,
+            several,
             places,
             empty: false,
         }),
@@ -110,84 +113,111 @@ fn end_fault(places: Places, empty: bool, len: u32) -> TextFault
     }
 }
 
-/// The tree, where the text may end here.
-fn whole(state: State) -> Result<Option<Ast>, AllocError>
-    ensures { IfOk result (λ a. a ≡ whole state) }
-{
-    let State {
-        stage,
-        level,
-        outer,
-    } = state;
-    match stage {
-        Stage::More(ast, _) => {
-            if outer.is_empty() {
-                Ok(Some(whole_sum(level, ast)?))
-            } else {
-                Ok(None)
-            }
-        }
-        Stage::Atom => Ok(None),
-        Stage::Opening(_) => Ok(None),
-    }
-}
-
-/// The tree, where the text may end here, or the fault that it does.
-fn ended(progress: Progress, len: u32) -> Result<Ast, TextFault>
-    ensures { Gives result (ended progress len) }
+// The trees, where the text may end here, or the fault of its end.
+fn ended(kind: Kind, progress: Progress, len: u32) -> Result<Items<Ast>, TextFault>
+    ensures { Gives result (ended kind progress len) }
 {
     let Progress {
         from: _,
-        state,
+        several,
         places,
         empty,
     } = progress;
     let fault = end_fault(places, empty, len);
-    match whole(state)? {
-        Some(ast) => Ok(ast),
+    match several.whole_terms(kind)? {
+        Some(terms) => Ok(terms),
         None => Err(fault),
     }
 }
 
 #[derive(Drop)]
 enum Turn {
-    Done(Ast),
+    Done(Items<Ast>),
     More(Progress),
 }
 
-/// Reads one token, or the end.
-fn next_turn(alloc: Global, text: &[u8], progress: Progress) -> Result<Turn, TextFault>
+// Reads one token, or the end.
+fn next_turn(alloc: Global, kind: Kind, text: &[u8], progress: Progress) -> Result<Turn, TextFault>
     requires short { length text.now ≤ 65536 }
     requires within { progress.from ≤ length text.now }
-    ensures { (ts : List Placed) → IsAfter text.now progress ts → IsTurn text.now progress result }
+    ensures { (ts : List Placed) → IsAfter (kind_of kind) text.now progress ts → IsTurn (kind_of kind) text.now progress result }
 {
     let at = past_spaces(text, progress.from);
     match front_at(text, at) {
-        Front::End => match ended(progress, text.len() as u32) {
-            Ok(ast) => Ok(Turn::Done(ast)),
+        Front::End => match ended(kind, progress, text.len() as u32) {
+            Ok(terms) => Ok(Turn::Done(terms)),
             Err(fault) => Err(fault),
         },
         Front::Flawed(flaw) => Err(fault_of_flaw(flaw, at as u32)),
-        Front::Token(token, len) => match taken(alloc, progress, token, at as u32, at + len) {
+        Front::Token(token, len) => match taken(alloc, kind, progress, token, at as u32, at + len) {
             Ok(next) => Ok(Turn::More(next)),
             Err(fault) => Err(fault),
         },
     }
 }
 
-/// The tree of a text, or its first fault.
-pub fn read_term(alloc: Global, text: &[u8]) -> Result<Ast, TextFault>
-    requires { length text.now ≤ 65536 }
-    ensures { Reads text.now result }
+// The trees of the terms of a text, or its first fault.
+fn read_terms(alloc: Global, kind: Kind, text: &[u8]) -> Result<Items<Ast>, TextFault>
+    requires short { length text.now ≤ 65536 }
+    ensures reads { ReadsTerms (kind_of kind) text.now result }
 {
     let mut progress = start(alloc);
     loop {
-        match next_turn(alloc, text, progress) {
-            Ok(Turn::Done(ast)) => return Ok(ast),
+        match next_turn(alloc, kind, text, progress) {
+            Ok(Turn::Done(terms)) => return Ok(terms),
             Ok(Turn::More(next)) => progress = next,
             Err(fault) => return Err(fault),
         }
     }
+}
+
+// The only one of some trees.
+fn only(terms: Items<Ast>) -> Ast
+    requires one { length terms ≡ 1 }
+    ensures only { terms ≡ result ∷ [] }
+{
+    let mut terms = terms;
+    terms.remove(0)
+}
+
+// The first and the last of two trees.
+fn both(terms: Items<Ast>) -> (Ast, Ast)
+    requires two { length terms ≡ 2 }
+    ensures both { terms ≡ result.0 ∷ result.1 ∷ [] }
+{
+    let mut terms = terms;
+    let first = terms.remove(0);
+    (first, terms.remove(0))
+}
+
+/// The tree of the text of a term, or exactly its first fault.
+pub fn read_term(alloc: Global, text: &[u8]) -> Result<Ast, TextFault>
+    requires short { length text.now ≤ 65536 }
+    ensures reads { ReadsTerm text.now result }
+{
+    match read_terms(alloc, Kind::Term, text) {
+        Ok(terms) => Ok(only(terms)),
+        Err(fault) => Err(fault),
+    }
+}
+
+/// The trees of the text of two terms with a semicolon between, or exactly its first fault.
+pub fn read_pair(alloc: Global, text: &[u8]) -> Result<(Ast, Ast), TextFault>
+    requires short { length text.now ≤ 65536 }
+    ensures reads { ReadsPair text.now result }
+{
+    match read_terms(alloc, Kind::Pair, text) {
+        Ok(terms) => Ok(both(terms)),
+        Err(fault) => Err(fault),
+    }
+}
+
+/// The trees of the text of two or more terms with semicolons between, in their order, or exactly its first fault.
+pub fn read_recurrence(alloc: Global, text: &[u8]) -> Result<Items<Ast>, TextFault>
+    requires short { length text.now ≤ 65536 }
+    ensures reads { ReadsTerms a_recurrence text.now result }
+{
+    read_terms(alloc, Kind::Recurrence, text)
 }
 
 #[cfg(test)]
@@ -320,5 +350,45 @@ mod tests {
         }
         assert!(rt; place_of(&rt, text.as_slice()) == Some(2));
         Ok(())
+    }
+
+    // Whether a tree is this variable at this place.
+    fn is_variable(ast: &Ast, name: u8, at: u32) -> bool {
+        match &ast.node {
+            Node::N => name == b'n' && ast.at == at,
+            Node::K => name == b'k' && ast.at == at,
+            _ => false,
+        }
+    }
+
+    #[test]
+    fn pairs(rt: HostRuntime) {
+        match read_pair(rt.alloc(), b"k;n".as_slice()) {
+            Ok((first, last)) => {
+                assert!(rt; is_variable(&first, b'k', 0));
+                assert!(rt; is_variable(&last, b'n', 2));
+            }
+            Err(_) => assert!(rt; false),
+        }
+        let one = read_pair(rt.alloc(), b"k".as_slice());
+        assert!(rt; matches!(one, Err(TextFault::Unexpected { at: 1 })));
+        let three = read_pair(rt.alloc(), b"k;n;k".as_slice());
+        assert!(rt; matches!(three, Err(TextFault::Unexpected { at: 3 })));
+        let open = read_pair(rt.alloc(), b"k;(n".as_slice());
+        assert!(rt; matches!(open, Err(TextFault::UnclosedParen { at: 2 })));
+        let inner = read_pair(rt.alloc(), b"(k;n)".as_slice());
+        assert!(rt; matches!(inner, Err(TextFault::Unexpected { at: 2 })));
+    }
+
+    #[test]
+    fn recurrences(rt: HostRuntime) {
+        match read_recurrence(rt.alloc(), b"n;1;n^2".as_slice()) {
+            Ok(terms) => assert!(rt; terms.len() == 3),
+            Err(_) => assert!(rt; false),
+        }
+        let one = read_recurrence(rt.alloc(), b"k".as_slice());
+        assert!(rt; matches!(one, Err(TextFault::Unexpected { at: 1 })));
+        let ended = read_recurrence(rt.alloc(), b"k;n;".as_slice());
+        assert!(rt; matches!(ended, Err(TextFault::Unexpected { at: 4 })));
     }
 }

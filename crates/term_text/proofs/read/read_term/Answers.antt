@@ -1,10 +1,14 @@
-use Rattle.std.proofs.Common.{subst, sym, [], arith, ap}
-use Rattle.term_text.specs.Progress.{IsAfter}
-use Rattle.term_text.proofs.Turns.{after_start}
+use Rattle.std.proofs.Common.{subst, map}
+use Rattle.grammar.specs.Several.{a_term}
+use Rattle.grammar.specs.Reading.{HasTrees}
+use Rattle.term_text.specs.View.{tree_of}
+use Rattle.term_text.proofs.Counts.{one_term}
 use Rattle.term_text.proofs.read.read_term.Goals as goal
 
-pub loop-ast-init : goal.loop-ast-init
-loop-ast-init c = record {
-  within = omega (arith, ap (λ p. p.from) c.start-progress.ensures);
-  after = ([], subst (λ p. IsAfter c.args.text.now p []) (sym c.start-progress.ensures) (after_start c.args.text.now));
-}
+-- the text of a term has one tree
+pub only-requires : goal.only-requires
+only-requires c = record { one = one_term c.args.text.now c.in-Ok.terms c.in-Ok.ensures.reads }
+
+-- which is the only one
+pub returns-in-Ok : goal.returns-in-Ok
+returns-in-Ok c = record { reads = subst (λ l. HasTrees a_term c.args.text.now (map tree_of l)) c.only.ensures.only c.in-Ok.ensures.reads }
