@@ -1,11 +1,11 @@
 -- Some texts and what reading them gives.
 use Rattle.std.proofs.Common.{◌≡◌, ℕ, Bool, true, false, List, [], ◌∷◌, ◌++◌, refl, ap, sym, ◌∙◌, inr, length}
 use Rattle.std.specs.Prelude.{codes, nat_lt, if◌then◌else◌}
-use Rattle.grammar.specs.Token.{digits, name_n, name_k, name_binomial, minus, star, slash, caret, bang, opening, closing, comma, Placed, with_token, IsNested64}
+use Rattle.grammar.specs.Token.{digits, name_n, name_k, name_binomial, minus, star, slash, caret, bang, opening, closing, comma, semicolon, Placed, with_token, IsNested64}
 use Rattle.hypergeometric.specs.Tree.{tree, literal, variable_n, variable_k, sum_of, product_of, power_of, binomial_of, no_parts, part}
 use Rattle.grammar.specs.Grammar.{product_alone, minus_product, power_alone, power_more, postfix_alone, raised, atom_alone, number, the_n, the_k, choose}
 use Rattle.grammar.specs.Reading.{IsFirstFault, HasTrees, unexpected_at, unclosed_at, empty_input}
-use Rattle.grammar.specs.Several.{Kind, a_term, term_alone}
+use Rattle.grammar.specs.Several.{a_term, a_pair, a_recurrence, term_alone, term_more}
 use Rattle.grammar.proofs.TermKinds.{continues_where, not_continues, not_derived_where}
 
 -- texts of few parentheses
@@ -113,4 +113,34 @@ nothing = (
   0,
   record { are_next = refl; nested = nested_where [] nothing_tokens refl; continued = continues_where a_term nothing_tokens refl },
   (not_derived_where a_term nothing_tokens refl, refl),
+)
+
+-- a pair, and a recurrence that has ended too early
+abbrev pair_tokens : List Placed
+pair_tokens = (0, name_k) ∷ (1, semicolon) ∷ (2, name_n) ∷ []
+
+pair : HasTrees a_pair (codes "k;n") (tree 0 variable_k ∷ tree 2 variable_n ∷ [])
+pair = (
+  pair_tokens,
+  3,
+  record {
+    are_next = (1, refl, refl, (1, refl, refl, (1, refl, refl, refl)));
+    nested = nested_where [] pair_tokens refl;
+    continued = continues_where a_pair pair_tokens refl;
+  },
+  refl,
+  term_more (term_alone (product_alone (power_alone (postfix_alone (atom_alone (the_k 0)))))) 1 (product_alone (power_alone (postfix_alone (atom_alone (the_n 2))))),
+  record { whole = refl; text = refl },
+  refl,
+)
+
+abbrev lone_tokens : List Placed
+lone_tokens = (0, name_k) ∷ []
+
+lone : IsFirstFault a_recurrence (codes "k") (unexpected_at 1)
+lone = (
+  lone_tokens,
+  1,
+  record { are_next = (1, refl, refl, refl); nested = nested_where [] lone_tokens refl; continued = continues_where a_recurrence lone_tokens refl },
+  (not_derived_where a_recurrence lone_tokens refl, refl),
 )

@@ -1,13 +1,13 @@
 -- Several terms, read one after another by the reader of one.
-use Rattle.std.proofs.Common.{◌≡◌, ℕ, Bool, true, false, List, [], ◌∷◌, ◌++◌, Option, Some, None, refl, ap, sym, ◌∙◌}
+use Rattle.std.proofs.Common.{◌≡◌, ℕ, true, false, List, [], ◌∷◌, ◌++◌, Option, Some, None, refl, ap, ◌∙◌}
 use Rattle.std.specs.Prelude.{if◌then◌else◌}
 use Rattle.grammar.specs.Token.{Token, digits, name_n, name_k, name_binomial, plus, minus, star, slash, caret, bang, opening, closing, comma, semicolon, Placed}
 use Rattle.grammar.specs.Grammar.{Sum, sum_text}
-use Rattle.grammar.specs.State.{State, wants_atom, wants_opening, has_power, begin, step, run, finished}
+use Rattle.grammar.specs.State.{State, wants_atom, wants_opening, has_power, begin, step, run}
 use Rattle.grammar.specs.Several.{Terms, term_alone, term_more, terms_text, Kind, a_term, a_pair, a_recurrence, is_whole, is_open}
 use Rattle.grammar.specs.States.{Before, States, start, with_term, at_semicolon, step_terms, run_terms, where_whole, finished_terms}
 use Rattle.grammar.proofs.Runs.{ended, grammar_runs, finished_ended}
-use Rattle.grammar.proofs.Prefixes.{some_of, none_some}
+use Rattle.grammar.proofs.Prefixes.{none_some}
 use Rattle.grammar.proofs.Texts.{sum_in_front}
 
 with_now : Before → Option State → Option States

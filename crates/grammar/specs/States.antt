@@ -1,5 +1,5 @@
 -- How far a reader of several terms has come: what stands before the term that is read, and how far that has come.
-use Rattle.std.specs.Prelude.{ℕ, Bool, List, [], ◌∷◌, ◌≡◌, true, Option, Some, None, if◌then◌else◌}
+use Rattle.std.specs.Prelude.{ℕ, List, [], ◌∷◌, ◌≡◌, true, Option, Some, None, if◌then◌else◌}
 use Rattle.grammar.specs.Token.{Token, semicolon, Placed}
 use Rattle.grammar.specs.Grammar.{Sum}
 use Rattle.grammar.specs.Several.{Terms, term_alone, term_more, terms_text, Kind, is_whole, is_open}

@@ -1,4 +1,7 @@
-//! The grammar of terms: derivations, what can be continued, and laws about both.
+//! The grammar of texts of terms: derivations, what can be continued, the first fault.
+//!
+//! `specs/` has the definitions, in this order: Token, Tokens, Grammar, Several, Reading. `proofs/` has their laws. The functions here do
+//! nothing: the contract of each is a law.
 #![tactic(auto)]
 
 ghost use Rattle.std.specs.Prelude.{◌≡◌, [], ◌++◌, ℕ, List};
@@ -10,12 +13,12 @@ ghost use Rattle.grammar.specs.Reading.{Fault, HasTrees, IsFirstFault};
 
 /// `sum_text s rest` is the text of `s` and then `rest`.
 pub fn text_in_front()
-    ensures { (s : Sum) (rest : List Placed) → sum_text s rest ≡ sum_text s [] ++ rest }
+    ensures front { (s : Sum) (rest : List Placed) → sum_text s rest ≡ sum_text s [] ++ rest }
 {}
 
 /// No text has two derivations.
 pub fn one_derivation()
-    ensures { (s t : Sum) → sum_text s [] ≡ sum_text t [] → s ≡ t }
+    ensures one { (s t : Sum) → sum_text s [] ≡ sum_text t [] → s ≡ t }
 {}
 
 /// A text of a kind has its trees, or else one first fault.
