@@ -1,5 +1,5 @@
 -- How many terms a text of a kind has.
-use Rattle.std.proofs.Common.{◌≡◌, ℕ, Bool, true, false, List, length, map, refl, ap, sym, ◌∙◌}
+use Rattle.std.proofs.Common.{◌≡◌, ℕ, true, false, List, length, map, refl, ap, sym, ◌∙◌}
 use Rattle.std.proofs.lemmas.List.{length-map}
 use Rattle.grammar.specs.Several.{Terms, term_alone, term_more, terms_trees, a_term, a_pair, is_whole}
 use Rattle.grammar.specs.Reading.{HasTrees}

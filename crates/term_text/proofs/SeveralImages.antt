@@ -1,9 +1,8 @@
 -- The steps of the code over several terms and the grammar's.
 use Rattle.std.proofs.Common.{◌≡◌, ℕ, Bool, true, false, List, [], ◌∷◌, ◌++◌, Option, Some, None, refl, ap, ◌∙◌, map}
 use Rattle.std.specs.Prelude.{if◌then◌else◌, not}
-use Rattle.hypergeometric.specs.Tree.{Tree}
 use Rattle.grammar.specs.Token as t
-use Rattle.grammar.specs.Grammar.{Sum, Power, sum_text, sum_tree}
+use Rattle.grammar.specs.Grammar.{Sum, Power, sum_text}
 use Rattle.grammar.specs.Several.{Terms, term_alone, term_more, terms_text, terms_trees}
 use Rattle.grammar.specs.Several as g
 use Rattle.grammar.specs.State as s

@@ -5,7 +5,6 @@ use Rattle.std.proofs.lemmas.List.{length-append}
 use Rattle.std.proofs.lemmas.Bool.{eqb-true}
 use Rattle.grammar.specs.Token as t
 use Rattle.grammar.specs.Tokens as k
-use Rattle.grammar.specs.Grammar.{Sum, Power}
 use Rattle.grammar.specs.Reading as r
 use Rattle.grammar.specs.Several.{Terms, terms_text, terms_trees}
 use Rattle.grammar.specs.Several as g_kind
@@ -15,21 +14,18 @@ use Rattle.grammar.proofs.SmallLiterals.{AreSmall, small_tokens}
 use Rattle.grammar.proofs.Fitting.{run_snoc, open_snoc, fitting_start, fitting_more, fault_flawed, fault_nesting, fault_unexpected, fault_end, trees_at_end}
 use Rattle.term_text.specs.declared.ast.Ast.{Ast}
 use Rattle.term_text.specs.declared.state.Token.{Token}
-use Rattle.term_text.specs.declared.state.Outer.{Outer}
-use Rattle.term_text.specs.declared.state.Stage.TheVariants as stage
 use Rattle.term_text.specs.declared.front.Flaw.{Flaw}
 use Rattle.term_text.specs.declared.front.Front.TheVariants as front
 use Rattle.term_text.specs.declared.fault.TextFault.{TextFault}
 use Rattle.term_text.specs.declared.fault.TextFault.TheVariants.{Unexpected, UnknownName, UnclosedParen, EmptyInput, NotAscii, Nesting, LiteralTooLarge, Memory}
 use Rattle.term_text.specs.declared.read.Progress.{Progress}
-use Rattle.term_text.specs.Steps.{is_empty, step}
-use Rattle.term_text.specs.Image.{sum_ast, power_ast, level_image, outer_image, stack_image, last_image, image, token_image, image_of}
+use Rattle.term_text.specs.Steps.{is_empty}
+use Rattle.term_text.specs.Image.{token_image}
 use Rattle.term_text.specs.Fronts.{front_image, flaw_image}
 use Rattle.term_text.specs.View.{tree_of}
 use Rattle.term_text.specs.declared.several.Kind.{Kind}
-use Rattle.term_text.specs.declared.several.Several.{Several}
 use Rattle.term_text.specs.SeveralSteps.{whole_terms, step_several}
-use Rattle.term_text.specs.SeveralImage.{kind_of, several_image, several_image_of, asts_of}
+use Rattle.term_text.specs.SeveralImage.{kind_of, several_image_of, asts_of}
 use Rattle.term_text.specs.Progress.{HasFault, start, without_last, placed, is_opening, taken_state, taken, fault_of_flaw, last_of, end_fault, Fails, ended, places_image, IsAfter}
 use Rattle.term_text.proofs.SeveralImages.{several_step, whole_terms_is, trees_of_terms}
 

@@ -7,11 +7,6 @@ use Rattle.grammar.specs.States as g
 use Rattle.term_text.specs.declared.ast.Ast.{Ast}
 use Rattle.term_text.specs.declared.state.Token.{Token}
 use Rattle.term_text.specs.declared.state.Token.TheVariants as token
-use Rattle.term_text.specs.declared.state.Stage.{Stage}
-use Rattle.term_text.specs.declared.state.Stage.TheVariants as stage
-use Rattle.term_text.specs.declared.state.Level.{Level}
-use Rattle.term_text.specs.declared.state.Outer.{Outer}
-use Rattle.term_text.specs.declared.state.State.{State}
 use Rattle.term_text.specs.declared.front.Flaw.{Flaw}
 use Rattle.term_text.specs.declared.front.Flaw.TheVariants as flaw
 use Rattle.term_text.specs.declared.fault.TextFault.{TextFault}

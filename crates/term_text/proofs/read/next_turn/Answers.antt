@@ -1,5 +1,5 @@
 use Rattle.term_text.specs.SeveralImage.{kind_of}
-use Rattle.std.proofs.Common.{subst, sym, ◌+◌, ◌∷◌, [], ◌++◌, length, arith, Err}
+use Rattle.std.proofs.Common.{subst, sym, ◌+◌, ◌∷◌, [], ◌++◌, length, arith}
 use Rattle.term_text.specs.Progress.{taken, ended, HasFault}
 use Rattle.term_text.proofs.Turns.{TakenIs, EndIs, turn_token, turn_end, turn_flawed, taken_fails, ended_fails}
 use Rattle.term_text.proofs.read.next_turn.Goals as goal
