@@ -37,7 +37,7 @@ regrouped p s a k y = simp (append_assoc, append-nil)
 
 placed : (poly y : Meaning) (scale a k : ℤ)
     → text_with (polynomial_text (in_k poly)) (signed_decimal scale) (polynomial_in_n_text ((level 1).ops.whole a))
-      (polynomial_text (level 2).ops.unit) (signed_decimal k) (polynomial_text (in_k y))
+    (polynomial_text (level 2).ops.unit) (signed_decimal k) (polynomial_text (in_k y))
     ≡ document_text (polynomial_document poly scale a k y)
 unfolding document_text digits
 placed poly y scale a k = refl
@@ -49,7 +49,7 @@ spelled poly y scale a k =
     regrouped (polynomial_text (in_k poly)) (signed_decimal scale) (signed_decimal a) (signed_decimal k) (polynomial_text (in_k y))
     ∙ ap (λ z. text_with (polynomial_text (in_k poly)) (signed_decimal scale) z (codes "1") (signed_decimal k) (polynomial_text (in_k y))) (sym (number_text a))
     ∙ ap (λ z. text_with (polynomial_text (in_k poly)) (signed_decimal scale) (polynomial_in_n_text ((level 1).ops.whole a)) z (signed_decimal k)
-      (polynomial_text (in_k y))) (sym one_text)
+    (polynomial_text (in_k y))) (sym one_text)
     ∙ placed poly y scale a k
 
 -- the printed pieces are the document's text

@@ -108,7 +108,7 @@ pub written_more : (old text new : List ℕ) (cs : List Meaning) (first : Bool) 
     → IsWritten old new cs false p
 written_more old text new cs first p c z h e same n w pushed =
     let more : monomials_from cs p ≡ monomials_from cs (suc p) ++ monomial_in_k z p ∷ [] =
-        opened cs p c z h e same ∙ ap (λ ms. monomials_from cs (suc p) ++ ms) (before_some z p n) in record {
+    opened cs p c z h e same ∙ ap (λ ms. monomials_from cs (suc p) ++ ms) (before_some z p n) in record {
       text = pushed ∙ ap (λ t. t ++ placed_text first (monomial_in_k z p)) w.text
           ∙ append_assoc old (body_text (monomials_from cs (suc p))) (placed_text first (monomial_in_k z p))
           ∙ ap (λ b. old ++ (body_text (monomials_from cs (suc p)) ++ placed_text b (monomial_in_k z p))) w.first

@@ -24,21 +24,21 @@ product_held w x h k =
 module _
     (s w x : ℤ) (i : ℕ) (within : i < 5) (so_far : unsigned_abs s ≤ 300000000 * i)
     (light : unsigned_abs w ≤ 60) (small : unsigned_abs x ≤ 5000000)
-    where
-  abbrev added : ℤ
-  added = to_z w64 (of_z w64 (to_z w64 (of_z w64 w) *ℤ to_z w64 (of_z w64 x)))
+  where
+    abbrev added : ℤ
+    added = to_z w64 (of_z w64 (to_z w64 (of_z w64 w) *ℤ to_z w64 (of_z w64 x)))
 
-  sum_small : unsigned_abs (s +ℤ w *ℤ x) ≤ 300000000 * (i + 1)
-  sum_small = omega (arith, ints, so_far, product_small w x light small)
+    sum_small : unsigned_abs (s +ℤ w *ℤ x) ≤ 300000000 * (i + 1)
+    sum_small = omega (arith, ints, so_far, product_small w x light small)
 
-  pub sum_fits : FitsSigned w64 (s +ℤ added)
-  sum_fits = rw (product_held w x light small) (small_fits (s +ℤ w *ℤ x) (omega (arith, sum_small, within)))
+    pub sum_fits : FitsSigned w64 (s +ℤ added)
+    sum_fits = rw (product_held w x light small) (small_fits (s +ℤ w *ℤ x) (omega (arith, sum_small, within)))
 
-  pub sum_held : to_z w64 (of_z w64 (s +ℤ added)) ≡ s +ℤ w *ℤ x
-  sum_held = rw (product_held w x light small) (held (s +ℤ w *ℤ x) (omega (arith, sum_small, within)))
+    pub sum_held : to_z w64 (of_z w64 (s +ℤ added)) ≡ s +ℤ w *ℤ x
+    sum_held = rw (product_held w x light small) (held (s +ℤ w *ℤ x) (omega (arith, sum_small, within)))
 
-  pub sum_held_small : unsigned_abs (to_z w64 (of_z w64 (s +ℤ added))) ≤ 300000000 * (i + 1)
-  sum_held_small = rw sum_held sum_small
+    pub sum_held_small : unsigned_abs (to_z w64 (of_z w64 (s +ℤ added))) ≤ 300000000 * (i + 1)
+    sum_held_small = rw sum_held sum_small
 
 -- a coefficient of i monomials and that of one more: what is computed is their sum, and it is small
 pub held_sum : (x y v : ℤ) (i : ℕ) → i < 5 → unsigned_abs x ≤ 1000000 * i → unsigned_abs v < 10 ^ 6 → y ≡ v

@@ -14,7 +14,7 @@ use cert_text::print_poly_doc;
 use ek_io::{ReadEnd, Sink, Source, read_all, write_all_counted};
 use ring_laws::RingFault;
 use std::alloc::Global;
-use term_text::{TextFault, read_powers};
+use term_text::{PowersFault, read_powers};
 
 /// The most bytes of an input.
 const INPUT_BYTES: usize = 65_536;
@@ -43,8 +43,8 @@ fn answer_text(alloc: Global, input: &[u8]) -> Result<Vec<u8>, Status>
 {
     let monomials = match read_powers(alloc, input) {
         Ok(monomials) => monomials,
-        Err(TextFault::Refused) => return Err(Status::Syntax),
-        Err(TextFault::Memory) => return Err(Status::Memory),
+        Err(PowersFault::Refused) => return Err(Status::Syntax),
+        Err(PowersFault::Memory) => return Err(Status::Memory),
     };
     let doc = match gosper(alloc, &monomials) {
         Ok(doc) => doc,
