@@ -1,5 +1,6 @@
 pub mod Quotients
 pub mod Shifts
+pub mod Signs
 pub mod PrimitiveForms
 pub mod OnlyPrimitive
 pub mod Rings
@@ -7,7 +8,10 @@ pub mod Powers
 pub mod Bounds
 pub mod Lookups
 pub mod Squaring
+pub mod SquaringSteps
+pub mod FormPolynomials
 pub mod ListProducts
+pub mod ListValues
 pub mod Items
 pub mod SortedLists
 mod KnownForms

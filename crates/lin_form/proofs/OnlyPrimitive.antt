@@ -11,7 +11,8 @@ use Rattle.ring_solver.proofs.Read.{ring_z, reading_z}
 use Rattle.hypergeometric.specs.LinearForm.{LinearForm}
 use Rattle.hypergeometric.specs.FormOrder.{IsPositiveFirst, IsPrimitive}
 use Rattle.lin_form.specs.Forms.{form_with, multiple}
-use Rattle.lin_form.proofs.PrimitiveForms.{AreQuotients, IsNotZero, zero_of, some_number}
+use Rattle.lin_form.proofs.PrimitiveForms.{AreQuotients, IsNotZero, some_number}
+use Rattle.lin_form.proofs.Signs.{zero_of}
 
 -- Euclid's algorithm, with at most `fuel` steps
 greatest_in : (fuel a b : ℕ) → b < fuel → (g : ℕ) × IsGcd a b g

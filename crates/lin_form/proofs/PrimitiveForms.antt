@@ -8,29 +8,7 @@ use Rattle.std.proofs.Math.Nat.{dvd_of_mul-dvd-mul_left, mul-dvd-mul_left, one-d
 use Rattle.hypergeometric.specs.LinearForm.{LinearForm}
 use Rattle.hypergeometric.specs.FormOrder.{IsPositiveFirst, IsPrimitive}
 use Rattle.lin_form.specs.Forms.{form_with, multiple, IsGreatestDivisor}
-
--- a factor above 0 keeps the sign, one below 0 turns it, and neither makes a 0
-pub same_sign : (e a : ℤ) → pos 0 <ℤ e → pos 0 <ℤ (e *ℤ a) → pos 0 <ℤ a
-same_sign (pos zero) a p q = absurd (omega (arith, ints))
-same_sign (pos (suc m)) (pos zero) p q = absurd (omega (arith, ints))
-same_sign (pos (suc m)) (pos (suc n)) p q = omega (arith, ints)
-same_sign (pos (suc m)) (negsuc n) p q = absurd (omega (arith, ints))
-same_sign (negsuc m) a p q = absurd (omega (arith, ints))
-
-pub turned_sign : (e a : ℤ) → e <ℤ pos 0 → (e *ℤ a) <ℤ pos 0 → pos 0 <ℤ a
-turned_sign (pos m) a p q = absurd (omega (arith, ints))
-turned_sign (negsuc m) (pos zero) p q = absurd (omega (arith, ints))
-turned_sign (negsuc m) (pos (suc n)) p q = omega (arith, ints)
-turned_sign (negsuc m) (negsuc n) p q = absurd (omega (arith, ints))
-
-pub zero_of : (e a : ℤ) → e ≢ pos 0 → e *ℤ a ≡ pos 0 → a ≡ pos 0
-zero_of (pos zero) a n q = absurd (n refl)
-zero_of (pos (suc m)) (pos zero) n q = refl
-zero_of (pos (suc m)) (pos (suc k)) n q = absurd (omega (arith, ints))
-zero_of (pos (suc m)) (negsuc k) n q = absurd (omega (arith, ints))
-zero_of (negsuc m) (pos zero) n q = refl
-zero_of (negsuc m) (pos (suc k)) n q = absurd (omega (arith, ints))
-zero_of (negsuc m) (negsuc k) n q = absurd (omega (arith, ints))
+use Rattle.lin_form.proofs.Signs.{same_sign, turned_sign, zero_of}
 
 -- the three numbers are those of the quotients times the factor
 pub record AreQuotients (f g : LinearForm) (e : ℤ) : Type 0 where

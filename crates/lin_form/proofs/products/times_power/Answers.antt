@@ -1,6 +1,7 @@
-use Rattle.std.specs.Prelude.{◌+◌, ◌/◌}
-use Rattle.std.proofs.Common.{arith, ap, ◌∙◌, subst}
-use Rattle.lin_form.proofs.Squaring.{Reached, start_reached, done, odd_halved, even_halved, squared, none_left, odd_fault, square_fault, fault_times}
+use Rattle.std.specs.Prelude.{◌≡◌, ◌+◌, ◌/◌, ◌<◌}
+use Rattle.std.proofs.Common.{arith, ap, sym, ◌∙◌, refl, subst}
+use Rattle.lin_form.proofs.Squaring.{Reached, start_reached, done}
+use Rattle.lin_form.proofs.SquaringSteps.{odd_halved, even_halved, squared, none_left, odd_fault, square_fault, fault_times}
 use Rattle.lin_form.proofs.products.times_power.Goals as goal
 use Rattle.lin_form.proofs.products.times_power.Goals.{then-left-eq1+in_ok-product, else-left-eq1}
 
