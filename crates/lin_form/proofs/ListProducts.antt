@@ -1,7 +1,7 @@
 -- A product of forms, factor by factor: what is reached after some of them, and where a step is in bounds.
 use Rattle.std.specs.Prelude.{◌≡◌, ℕ, zero, suc, ◌+◌, ◌<◌, IsTrue, List, [], ◌∷◌, drop, length, slice_get, Option, Some, Result, Ok, Err, IfErr, ◌≤◌, refl}
 use Rattle.std.proofs.Common.{ap, sym, ◌∙◌, subst, arith, add-one, IsErrAnd}
-use Rattle.ring_laws.specs.Meaning.{Meaning, items}
+use Rattle.ring_laws.specs.Meaning.{Meaning}
 use Rattle.ring_laws.specs.Algebra.{Passing}
 use Rattle.ring_laws.specs.Answer.{OnFault, fault_weaker}
 use Rattle.ring_laws.specs.declared.faults.RingFault.{RingFault}

@@ -1,5 +1,5 @@
-use Rattle.std.specs.Prelude.{◌≡◌, ◌+◌, ◌/◌, ◌<◌}
-use Rattle.std.proofs.Common.{arith, ap, sym, ◌∙◌, refl, subst}
+use Rattle.std.specs.Prelude.{◌+◌, ◌/◌}
+use Rattle.std.proofs.Common.{arith, ap, ◌∙◌, subst}
 use Rattle.lin_form.proofs.Squaring.{Reached, start_reached, done}
 use Rattle.lin_form.proofs.SquaringSteps.{odd_halved, even_halved, squared, none_left, odd_fault, square_fault, fault_times}
 use Rattle.lin_form.proofs.products.times_power.Goals as goal
