@@ -3,3 +3,13 @@ pub mod LiftedPolynomials
 pub mod PolynomialClaims
 pub mod WrittenNumbers
 pub mod Assembled
+mod Prefixes
+mod Signs
+mod MonomialReading
+mod SignedMonomials
+mod CoefficientReading
+mod FallingMonomials
+mod TrimmedCoefficients
+mod Lines
+mod SharedLines
+mod ContentsReading

@@ -1,2 +1,4 @@
 pub mod PolynomialDocument
 pub mod Printing
+pub mod Readable
+pub mod Reading
