@@ -44,12 +44,12 @@ pub record AreInBounds (d : Contents) : Type 0 where
 
 -- what the computation of the two sides answers
 abbrev pub GivesSides : {T : Type 0} → (T → Meaning) → Contents → Result (T × T) RingFault → Type 0
-GivesSides meaning d (Ok sides) = (meaning sides.0 ≡ difference d) × (meaning sides.1 ≡ multiple d)
+GivesSides meaning d (Ok sides) = AreInBounds d × (meaning sides.0 ≡ difference d) × (meaning sides.1 ≡ multiple d)
 GivesSides meaning d (Err fault) = OnFault (¬ AreInBounds d) fault
 
 -- what the test of the equation answers
 abbrev pub TestsEquation : Contents → Result Bool RingFault → Type 0
-TestsEquation d (Ok holds) = IsTrue holds ↔ HasEquation d
+TestsEquation d (Ok holds) = AreInBounds d × (IsTrue holds ↔ HasEquation d)
 TestsEquation d (Err fault) = OnFault (¬ AreInBounds d) fault
 
 -- the test is the first that fails

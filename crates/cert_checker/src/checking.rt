@@ -14,13 +14,17 @@ use std::alloc::Global;
 /// Whether the claim of a document holds: the scales of the term and the carrier are equal, the multiplier isn't 0, and the
 /// difference of Y is the multiplier times the polynomial of the term. The first test that fails is named.
 ///
-/// `TooLarge` names claim 0, and comes only where the shift of Y, the difference or the product is out of bounds.
+/// `TooLarge` names claim 0, and comes exactly where the first two tests hold and the shift of Y, the difference or the product is
+/// out of bounds.
 pub fn check_poly(alloc: Global, doc: &PolyDoc) -> Result<Verdict, EngineFault>
     // Accepted exactly where all three tests hold, and rejected with the first that fails.
     ensures verdict { IfOk result (IsVerdictOf (contents (⟦<Zn as Ring>⟧.meaning doc.now.poly) doc.now.scale.value doc.now.multiplier.value
         doc.now.carrier_scale.value (⟦<Zn as Ring>⟧.meaning doc.now.y))) }
 
-    // Only at the third test, and only where a step of it is out of bounds.
+    // Exactly where the third test is reached and a step of it is out of bounds, unless memory ends first.
+    ensures in_bounds { doc.now.scale.value ≡ doc.now.carrier_scale.value → doc.now.multiplier.value ≢ pos 0
+        → OnOk result (AreInBounds (contents (⟦<Zn as Ring>⟧.meaning doc.now.poly) doc.now.scale.value doc.now.multiplier.value
+        doc.now.carrier_scale.value (⟦<Zn as Ring>⟧.meaning doc.now.y))) }
     ensures too_large { (place : Place) → result ≡ Err (EngineFault.TooLarge place) → (place ≡ Place.Claim 0)
         × (doc.now.scale.value ≡ doc.now.carrier_scale.value) × (doc.now.multiplier.value ≢ pos 0)
         × (¬ AreInBounds (contents (⟦<Zn as Ring>⟧.meaning doc.now.poly) doc.now.scale.value doc.now.multiplier.value

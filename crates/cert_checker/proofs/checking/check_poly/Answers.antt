@@ -14,7 +14,7 @@ returns-in-Ok-true-clause-telescopes c = λ not_zero accepted.
     let d : Contents = contents (listed (numbers doc.poly.list.items)) doc.scale.value doc.multiplier.value doc.carrier_scale.value
     (listed (numbers doc.y.list.items)) in
     let carrier : HasCarrier d = omega (arith, ints, c.if-value.false, c.value.ensures.value, c.value-2.ensures.value) in
-    claim_telescopes d not_zero carrier (c.in-Ok-true.ensures.test.0 c.in-Ok-true.field-0-test)
+    claim_telescopes d not_zero carrier (c.in-Ok-true.ensures.test.1.0 c.in-Ok-true.field-0-test)
 
 -- a document with the identity passes the third test
 pub returns-in-Ok-false-clause-right : goal.returns-in-Ok-false-clause-right

@@ -17,6 +17,6 @@ returns-clause-right c = λ identity.
     let d : Contents = contents (listed (numbers doc.poly.list.items)) doc.scale.value doc.multiplier.value doc.carrier_scale.value
     (listed (numbers doc.y.list.items)) in
     c.same.ensures.test.1
-    (equation_of d (listed (numbers left.list.items)) (listed (numbers right.list.items)) c.in_ok-left.ensures.gives.0 c.in_ok-left.ensures.gives.1
+    (equation_of d (listed (numbers left.list.items)) (listed (numbers right.list.items)) c.in_ok-left.ensures.gives.1 c.in_ok-left.ensures.gives.2
     (value_passes whole_algebra (λ (w : Whole). number w.value) (λ w. refl) left.list.items left.ended)
     (value_passes whole_algebra (λ (w : Whole). number w.value) (λ w. refl) right.list.items right.ended) identity)
