@@ -1,1 +1,2 @@
 mod Identities
+mod KnownChecks

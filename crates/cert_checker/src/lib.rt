@@ -10,3 +10,6 @@ mod verdicts;
 
 pub use checking::check_poly;
 pub use verdicts::{Reason, Verdict};
+
+#[cfg(test)]
+mod tests;

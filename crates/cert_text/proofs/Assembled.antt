@@ -1,6 +1,6 @@
 -- The pieces of a document's text, put together.
-use Rattle.std.proofs.Common.{◌≡◌, ℕ, List, [], ◌∷◌, ◌++◌, refl, ap, sym, ◌∙◌, append_assoc, append-nil}
-use Rattle.std.specs.Prelude.{ℤ, pos, codes}
+use Rattle.std.proofs.Common.{◌≡◌, ℕ, List, [], ◌++◌, refl, ap, sym, ◌∙◌, append_assoc, append-nil}
+use Rattle.std.specs.Prelude.{ℤ, codes}
 use Rattle.std.specs.Fmt.{signed_decimal, digits}
 use Rattle.ring_laws.specs.Meaning.{Meaning}
 use Rattle.poly_laws.specs.Values.{level}

@@ -13,3 +13,4 @@ mod TrimmedCoefficients
 mod Lines
 mod SharedLines
 mod ContentsReading
+mod KnownReadable

@@ -1,9 +1,9 @@
 -- A polynomial in one variable read as one in k over n: its values, and that it keeps its bounds.
-use Rattle.std.proofs.Common.{◌≡◌, ◌≢◌, ℕ, zero, suc, ◌≤◌, ◌<◌, ◌^◌, List, [], ◌∷◌, length, map, refl, ap, sym, ◌∙◌, arith, subst, Bool, true, false, lit≤, lit<}
-use Rattle.std.proofs.lemmas.Bool.{and_from, and_parts}
+use Rattle.std.proofs.Common.{◌≡◌, ◌≢◌, ℕ, zero, suc, List, [], ◌∷◌, length, map, refl, ap, sym, ◌∙◌, arith, subst, lit≤, lit<}
+use Rattle.std.proofs.lemmas.Bool.{and_parts}
 use Rattle.std.proofs.lemmas.List.{length-map}
-use Rattle.std.specs.Prelude.{ℤ, pos, negsuc, ◌+ℤ◌, ◌*ℤ◌, unsigned_abs, IsTrue, ◌&&◌}
-use Rattle.ring_laws.specs.Meaning.{Meaning, number, several, listed, items, joined, parted, parted-joined}
+use Rattle.std.specs.Prelude.{ℤ, pos, negsuc, ◌+ℤ◌, ◌*ℤ◌, IsTrue}
+use Rattle.ring_laws.specs.Meaning.{Meaning, number, several, items, parted, parted-joined}
 use Rattle.ring_laws.specs.Wholes.{number_of, is_number}
 use Rattle.poly_laws.specs.Lists.{coefficient_at, is_trimmed}
 use Rattle.poly_laws.specs.PolyAlgebra.{every_passes, is_empty}

@@ -1,10 +1,10 @@
 -- The document of a polynomial in k is well formed, and telescopes what has the polynomial's values.
-use Rattle.std.proofs.Common.{◌≡◌, ◌≢◌, ℕ, zero, suc, ◌*◌, ◌≤◌, ◌<◌, List, [], ◌∷◌, refl, ap, sym, ◌∙◌, arith, subst, lit≤, lit<}
+use Rattle.std.proofs.Common.{◌≡◌, ◌≢◌, ℕ, zero, suc, [], ◌∷◌, refl, ap, sym, ◌∙◌, arith, lit≤, lit<}
 use Rattle.std.proofs.lemmas.Int.{ints}
 use Rattle.std.proofs.lemmas.Nat.Gcd.{dvd_antisymm}
 use Rattle.std.proofs.Math.Nat.{one-dvd}
 use Rattle.std.specs.Int.{◌∣◌}
-use Rattle.std.specs.Prelude.{ℤ, pos, negsuc, ◌+ℤ◌, ◌-ℤ◌, ◌*ℤ◌, unsigned_abs}
+use Rattle.std.specs.Prelude.{ℤ, pos, ◌+ℤ◌, ◌-ℤ◌, ◌*ℤ◌}
 use Rattle.ring_laws.specs.Meaning.{Meaning, items}
 use Rattle.poly_laws.specs.Lists.{coefficient_at}
 use Rattle.poly_laws.specs.Values.{value_at, level}
@@ -16,7 +16,7 @@ use Rattle.hypergeometric.specs.Telescopes.{Telescopes}
 use Rattle.hypergeometric.proofs.FractionLaws.{one_not_zero}
 use Rattle.hypergeometric.proofs.PlainTerms.{plain_telescopes}
 use Rattle.hypergeometric.specs.FormOrder.{AreFactors}
-use Rattle.document_text.specs.WellFormed.{IsNumber, IsPolynomial, IsLowest, ArePrimitiveFactors, IsFactorList, IsProper, IsPlain, IsCarrier, IsFound, IsWellFormed}
+use Rattle.document_text.specs.WellFormed.{IsNumber, IsPolynomial, IsLowest, IsFactorList, IsProper, IsWellFormed}
 use Rattle.cert_text.specs.PolynomialDocument.{in_k, polynomial_document}
 use Rattle.cert_text.proofs.LiftedPolynomials.{in_k_value, in_k_polynomial, in_k_not_zero, constant_polynomial}
 

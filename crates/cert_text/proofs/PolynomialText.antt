@@ -1,9 +1,9 @@
 -- The text of a polynomial in k, built from the highest power down.
-use Rattle.std.proofs.Common.{◌≡◌, ◌≢◌, ℕ, zero, suc, ◌+◌, ◌<◌, ◌≤◌, List, [], ◌∷◌, ◌++◌, length, get_or, drop, map, refl, ap, sym, ◌∙◌, arith, subst, append_assoc, append-nil, add-one, drop-cons, Bool, true, false, flat_map}
+use Rattle.std.proofs.Common.{◌≡◌, ◌≢◌, ℕ, zero, suc, ◌<◌, List, [], ◌∷◌, ◌++◌, length, get_or, drop, map, refl, ap, sym, ◌∙◌, arith, append_assoc, append-nil, drop-cons, Bool, true, false, flat_map}
 use Rattle.std.proofs.lemmas.Grind.{common_steps}
 use Rattle.std.specs.Prelude.{ℤ, pos, negsuc}
 use Rattle.std.specs.Fmt.{decimal, signed_decimal, digits}
-use Rattle.ring_laws.specs.Meaning.{Meaning, listed, items, joined, parted, parted-joined}
+use Rattle.ring_laws.specs.Meaning.{Meaning, items, parted-joined}
 use Rattle.ring_laws.specs.Wholes.{number_of}
 use Rattle.poly_laws.specs.Values.{level}
 use Rattle.document_text.specs.Spelling.{Monomial, monomial_before, monomials_in_n, monomials_in_k, first_text, later_text, monomials_text, polynomial_text, polynomial_in_n_text}

@@ -1,7 +1,7 @@
 -- The steps of the printer's loop, over the numbers that it goes through.
-use Rattle.std.proofs.Common.{◌≡◌, ◌≢◌, ℕ, zero, suc, ◌+◌, ◌<◌, ◌≤◌, List, [], ◌∷◌, ◌++◌, length, get_or, map, refl, ap, sym, ◌∙◌, arith, subst, Bool, true, false}
+use Rattle.std.proofs.Common.{◌≡◌, ◌≢◌, ℕ, zero, suc, ◌+◌, ◌<◌, ◌≤◌, List, [], ◌∷◌, ◌++◌, length, get_or, refl, ap, sym, arith, subst, Bool, true, false}
 use Rattle.std.proofs.lemmas.List.{length-map}
-use Rattle.std.specs.Prelude.{ℤ, pos, negsuc}
+use Rattle.std.specs.Prelude.{pos}
 use Rattle.ring_laws.specs.Meaning.{Meaning, number, listed, items, parted-joined}
 use Rattle.ring_laws.specs.declared.wholes.Whole.{Whole}
 use Rattle.document_text.specs.Spelling.{polynomial_text}

@@ -1,5 +1,5 @@
 -- The documents of polynomials in k: the term is a whole scale times a polynomial in k, and so is G.
-use Rattle.std.specs.Prelude.{ℤ, List, [], map, None}
+use Rattle.std.specs.Prelude.{ℤ, [], map, None}
 use Rattle.ring_laws.specs.Meaning.{Meaning, listed, items}
 use Rattle.ring_laws.specs.Wholes.{number_of}
 use Rattle.poly_laws.specs.Values.{level}

@@ -20,3 +20,6 @@ pub use documents::PolyDoc;
 pub use faults::{DocFault, EngineFault, LimitName, Place};
 pub use printing::print_poly_doc;
 pub use reading::read_poly_doc;
+
+#[cfg(test)]
+mod tests;

@@ -1,4 +1,4 @@
-use Rattle.std.proofs.Common.{◌≢◌, ◌-◌, string_bytes, pos, arith, refl}
+use Rattle.std.proofs.Common.{◌≢◌, ◌-◌, string_bytes, pos, arith}
 use Rattle.std.proofs.lemmas.Int.{ints}
 use Rattle.cert_text.proofs.WrittenNumbers.{start, passed, added, ended_some, ended_none}
 use Rattle.cert_text.proofs.printing.push_polynomial.Goals as goal
