@@ -53,13 +53,20 @@ inner l o outer = record { stage = stage.Atom; level = empty_level; outer = oute
 abbrev pub may_negate : Level → Bool
 may_negate l = is_empty l.terms && not l.subtracted && is_empty l.factors && is_none l.base
 
+abbrev pub negated : Level → ℕ → Option Level
+negated l at = if may_negate l then Some (record l { sum_at = at; subtracted = true }) else None
+
+abbrev pub at_atom : Option Level → List Outer → Option State
+at_atom None outer = None
+at_atom (Some l) outer = Some (record { stage = stage.Atom; level = l; outer = outer })
+
 abbrev pub step_atom : Level → List Outer → Token → ℕ → Option State
 step_atom l outer (token.Digits v) at = Some (filled l outer (record { at = at; node = node.Literal v }))
 step_atom l outer token.N at = Some (filled l outer (record { at = at; node = node.N }))
 step_atom l outer token.K at = Some (filled l outer (record { at = at; node = node.K }))
 step_atom l outer token.Binomial at = Some (record { stage = stage.Opening at; level = l; outer = outer })
 step_atom l outer token.Opening at = Some (inner l Bracket outer)
-step_atom l outer token.Minus at = if may_negate l then Some (record { stage = stage.Atom; level = record l { sum_at = at; subtracted = true }; outer = outer }) else None
+step_atom l outer token.Minus at = at_atom (negated l at) outer
 step_atom l outer _ at = None
 
 -- a sum that goes on behind a sign

@@ -1,6 +1,6 @@
 //! What a reader has taken in, token by token.
 ghost use Rattle.std.specs.Prelude.{◌≡◌, [], ◌∷◌, ◌++◌, IfOk, List, Some, None};
-ghost use Rattle.term_text.specs.Steps.{joined_product, joined_sum, filled, empty_level, inner, step_atom, more_terms, more_factors, whole_sum, split_last, close_outer, comma_outer, step_closing, step_comma, step_bang, step_caret, step_more, step_stage, step};
+ghost use Rattle.term_text.specs.Steps.{joined_product, joined_sum, filled, empty_level, inner, negated, step_atom, more_terms, more_factors, whole_sum, split_last, close_outer, comma_outer, step_closing, step_comma, step_bang, step_caret, step_more, step_stage, step};
 
 use crate::ast::{Ast, Node, Part};
 use ring_laws::Whole;
@@ -188,6 +188,33 @@ fn inner(
     })
 }
 
+// The level whose sum begins with a minus, where nothing stands there yet.
+fn negated(level: Level, at: u32) -> Option<Level>
+    ensures { result ≡ negated level at }
+{
+    let Level {
+        terms,
+        sum_at: _,
+        subtracted,
+        factors,
+        product_at,
+        divided,
+        base,
+    } = level;
+    if !terms.is_empty() || subtracted || !factors.is_empty() || base.is_some() {
+        return None;
+    }
+    Some(Level {
+        terms,
+        sum_at: at,
+        subtracted: true,
+        factors,
+        product_at,
+        divided,
+        base,
+    })
+}
+
 fn step_atom(
     alloc: Global,
     level: Level,
@@ -215,34 +242,14 @@ fn step_atom(
             outer,
         })),
         Token::Opening => Ok(Some(inner(alloc, level, Opened::Bracket, outer)?)),
-        Token::Minus => {
-            let Level {
-                terms,
-                sum_at,
-                subtracted,
-                factors,
-                product_at,
-                divided,
-                base,
-            } = level;
-            if !terms.is_empty() || subtracted || !factors.is_empty() || base.is_some() {
-                return Ok(None);
-            }
-            let level = Level {
-                terms,
-                sum_at: at,
-                subtracted: true,
-                factors,
-                product_at,
-                divided,
-                base,
-            };
-            Ok(Some(State {
+        Token::Minus => match negated(level, at) {
+            Some(level) => Ok(Some(State {
                 stage: Stage::Atom,
                 level,
                 outer,
-            }))
-        }
+            })),
+            None => Ok(None),
+        },
         _ => Ok(None),
     }
 }
