@@ -3,7 +3,8 @@
 ghost use Rattle.std.specs.Prelude.{◌≡◌, ◌≢◌, ℕ, pos, IsTrue, ◌↔◌, Err, IfOk, OnOk};
 ghost use Rattle.ring_laws.specs.Answer.{OnFault};
 ghost use Rattle.cert_text.specs.Readable.{contents};
-ghost use Rattle.cert_checker.specs.Checks.{difference, multiple, HasCarrier, HasMultiplier, HasEquation, AreInBounds, IsVerdictOf, IsAccepted, HasIdentity, ClaimTelescopes, GivesSides, TestsEquation};
+ghost use Rattle.cert_checker.specs.Checks.{difference, multiple, HasCarrier, HasMultiplier, HasEquation, AreInBounds};
+ghost use Rattle.cert_checker.specs.Checks.{IsVerdictOf, IsAccepted, HasIdentity, ClaimTelescopes, GivesSides, TestsEquation};
 
 use crate::verdicts::{Reason, Verdict};
 use cert_text::{EngineFault, LimitName, Place, PolyDoc};

@@ -1,13 +1,14 @@
 -- What is left of a text while its monomials are read: those of the powers below the bound.
-use Rattle.std.specs.Prelude.{◌≡◌, ◌≢◌, ◌⊎◌, ℕ, zero, suc, ◌<◌, ◌≤◌, Bool, true, false, if◌then◌else◌, ℤ, pos, List, [], ◌∷◌, ◌++◌, length, flat_map}
-use Rattle.std.proofs.Common.{refl, ap, sym, subst, ◌∙◌, arith, set, replicate, inl, inr}
-use Rattle.std.proofs.lemmas.Bool.{eq-eqb, ne_eqb, cases_lt}
+use Rattle.std.specs.Prelude.{◌≡◌, ◌≢◌, ◌⊎◌, ℕ, ◌<◌, ◌≤◌, Bool, true, false, ℤ, pos, List, [], ◌∷◌, ◌++◌, length, flat_map}
+use Rattle.std.proofs.Common.{refl, ap, sym, subst, ◌∙◌, arith, set, inl, inr}
+use Rattle.std.proofs.lemmas.Bool.{cases_lt}
 use Rattle.ring_laws.specs.declared.wholes.Whole.{Whole}
 use Rattle.document_text.specs.Spelling.{Monomial, later_text}
 use Rattle.document_text.specs.WellFormed.{IsNumber}
 use Rattle.document_text.proofs.Cutting.{Stops}
 use Rattle.cert_text.specs.Printing.{monomial_in_k, placed_text}
 use Rattle.cert_text.specs.Reading.{unsigned, AreFalling, rest_text, value_in, coefficient_of}
+use Rattle.cert_text.proofs.CoefficientsAt.{none_from, coefficient_first, coefficient_other, value_set, value_kept, length_set}
 use Rattle.cert_text.proofs.SignedMonomials.{later_stop, monomial_some}
 
 -- the monomials that are left, how they are spelled, and that the others were read
@@ -24,44 +25,6 @@ pub record IsLeft (text : List ℕ) (list : List Whole) (bound : ℕ) (rest : Li
   pub within : bound ≤ 256
   pub noughts : (k : ℕ) → k < bound → value_in list k ≡ pos 0
   pub splits : (ms : List Monomial) → AreFalling 256 ms → text ≡ rest_text true ms → Split list bound rest ms
-
--- no monomial has a power from the bound on
-pub none_from : (bound : ℕ) (ms : List Monomial) (k : ℕ) → AreFalling bound ms → bound ≤ k → coefficient_of ms k ≡ pos 0
-none_from bound [] k falling h = refl
-none_from bound (m ∷ ms) k falling h =
-    ap (λ b. if b then m.coefficient else coefficient_of ms k) (ne_eqb m.k_power k (λ e. omega (arith, falling.2, e, h)))
-    ∙ none_from m.k_power ms k falling.3 (omega (arith, falling.2, h))
-
--- the coefficient of the first monomial, and of the others
-pub coefficient_first : (m : Monomial) (ms : List Monomial) (k : ℕ) → k ≡ m.k_power → coefficient_of (m ∷ ms) k ≡ m.coefficient
-coefficient_first m ms k e = ap (λ b. if b then m.coefficient else coefficient_of ms k) (eq-eqb m.k_power k (sym e))
-
-pub coefficient_other : (m : Monomial) (ms : List Monomial) (k : ℕ) → k ≢ m.k_power → coefficient_of (m ∷ ms) k ≡ coefficient_of ms k
-coefficient_other m ms k n = ap (λ b. if b then m.coefficient else coefficient_of ms k) (ne_eqb m.k_power k (λ e. n (sym e)))
-
--- a coefficient that is put into its place
-value_set : (list : List Whole) (i : ℕ) (w : Whole) → i < length list → value_in (set list i w) i ≡ w.value
-value_set [] i w h = absurd (omega arith)
-value_set (x ∷ xs) zero w h = refl
-value_set (x ∷ xs) (suc i) w h = value_set xs i w (omega arith)
-
-value_kept : (list : List Whole) (i k : ℕ) (w : Whole) → k ≢ i → value_in (set list i w) k ≡ value_in list k
-value_kept [] i k w n = refl
-value_kept (x ∷ xs) zero zero w n = absurd (n refl)
-value_kept (x ∷ xs) zero (suc k) w n = refl
-value_kept (x ∷ xs) (suc i) zero w n = refl
-value_kept (x ∷ xs) (suc i) (suc k) w n = value_kept xs i k w (λ e. n (ap suc e))
-
-length_set : (list : List Whole) (i : ℕ) (w : Whole) → length (set list i w) ≡ length list
-length_set [] i w = refl
-length_set (x ∷ xs) zero w = refl
-length_set (x ∷ xs) (suc i) w = ap suc (length_set xs i w)
-
--- as many zeros
-pub value_nought : (n k : ℕ) (w : Whole) → w.value ≡ pos 0 → value_in (replicate n w) k ≡ pos 0
-value_nought zero k w e = refl
-value_nought (suc n) zero w e = e
-value_nought (suc n) (suc k) w e = value_nought n k w e
 
 -- at the start all is left
 pub left_start : (text : List ℕ) (list : List Whole) → length list ≡ 256 → ((k : ℕ) → value_in list k ≡ pos 0) → IsLeft text list 256 text

@@ -1,5 +1,5 @@
 -- The contents that are read from the fields of a text, and the lines of the text that they explain.
-use Rattle.std.specs.Prelude.{◌≡◌, ℕ, ℤ, Bool, codes, List, ◌∷◌, ◌++◌}
+use Rattle.std.specs.Prelude.{◌≡◌, ℕ, ℤ, Bool, codes, List, ◌∷◌}
 use Rattle.std.specs.Fmt.{signed_decimal}
 use Rattle.std.proofs.Common.{refl, ap, sym, subst, ◌∙◌}
 use Rattle.ring_laws.specs.Meaning.{Meaning}
@@ -12,71 +12,12 @@ use Rattle.document_text.proofs.MonomialBytes.{polynomial_bytes}
 use Rattle.document_text.proofs.Polynomials.{only_polynomial}
 use Rattle.cert_text.specs.PolynomialDocument.{in_k}
 use Rattle.cert_text.specs.Readable.{Contents, document_of, AreReadable, SameLines}
-use Rattle.cert_text.specs.Reading.{outside, IsField}
+use Rattle.cert_text.specs.Reading.{outside}
 use Rattle.cert_text.proofs.LiftedPolynomials.{in_k_polynomial}
 use Rattle.cert_text.proofs.Assembled.{pieces, assembled}
+use Rattle.cert_text.proofs.FieldsOfText.{term_word, scale_word, multiplier_word, carrier_word, y_word, Fields, AreFields, Agrees}
+use Rattle.cert_text.proofs.FieldsOfText.{behind_y, behind_carrier, behind_multiplier, behind_scale, behind_poly}
 use Rattle.cert_text.proofs.SharedLines.{in_line, field_shared}
-
--- the words in front of the five fields
-abbrev pub term_word : List ℕ
-term_word = codes "ekhad 1\ncommand gosper\nterm poly "
-
-abbrev pub scale_word : List ℕ
-scale_word = codes "; scale "
-
-abbrev pub multiplier_word : List ℕ
-multiplier_word = codes "; nbase 1; kbase 1; up -; down -; over -; guard -\nfound 0\nmatch -\nq 1; -\nr 1; -\na "
-
-abbrev pub carrier_word : List ℕ
-carrier_word = codes "\nK poly 1; scale "
-
-abbrev pub y_word : List ℕ
-y_word = codes "; nbase 1; kbase 1; up -; down -; over -; guard -\nY "
-
--- what follows the stop of each field
-abbrev behind_y : List ℕ
-behind_y = codes "D -\nRtop 1; -\nRbot 1; -\nrange -\nend\n"
-
-abbrev behind_carrier : List ℕ → List ℕ
-behind_carrier y = codes " nbase 1; kbase 1; up -; down -; over -; guard -\nY " ++ (y ++ 10 ∷ behind_y)
-
-abbrev behind_multiplier : List ℕ → List ℕ → List ℕ
-behind_multiplier k y = codes "K poly 1; scale " ++ (k ++ 59 ∷ behind_carrier y)
-
-abbrev behind_scale : List ℕ → List ℕ → List ℕ → List ℕ
-behind_scale a k y = codes " nbase 1; kbase 1; up -; down -; over -; guard -\nfound 0\nmatch -\nq 1; -\nr 1; -\na " ++ (a ++ 10 ∷ behind_multiplier k y)
-
-abbrev behind_poly : List ℕ → List ℕ → List ℕ → List ℕ → List ℕ
-behind_poly s a k y = codes " scale " ++ (s ++ 59 ∷ behind_scale a k y)
-
--- the five fields of a text
-pub record Fields : Type 0 where
-  pub poly : List ℕ
-  pub scale : List ℕ
-  pub multiplier : List ℕ
-  pub carrier_scale : List ℕ
-  pub y : List ℕ
-
--- with what follows each
-pub record AreFields (text : List ℕ) (f : Fields) : Type 0 where
-  pub rest_1 : List ℕ
-  pub rest_2 : List ℕ
-  pub rest_3 : List ℕ
-  pub rest_4 : List ℕ
-  pub rest_5 : List ℕ
-  pub poly : IsField text term_word (codes ";") f.poly rest_1
-  pub scale : IsField rest_1 scale_word (codes ";") f.scale rest_2
-  pub multiplier : IsField rest_2 multiplier_word (codes "\n") f.multiplier rest_3
-  pub carrier_scale : IsField rest_3 carrier_word (codes ";") f.carrier_scale rest_4
-  pub y : IsField rest_4 y_word (codes "\n") f.y rest_5
-
--- each field that spells its part of d is read as that part
-pub record Agrees (f : Fields) (d e : Contents) : Type 0 where
-  pub poly : f.poly ≡ polynomial_text (in_k d.poly) → e.poly ≡ d.poly
-  pub scale : f.scale ≡ signed_decimal d.scale → e.scale ≡ d.scale
-  pub multiplier : f.multiplier ≡ signed_decimal d.multiplier → e.multiplier ≡ d.multiplier
-  pub carrier_scale : f.carrier_scale ≡ signed_decimal d.carrier_scale → e.carrier_scale ≡ d.carrier_scale
-  pub y : f.y ≡ polynomial_text (in_k d.y) → e.y ≡ d.y
 
 -- polynomials and numbers have no bytes but their own
 only_in_k : (class : ℕ → Bool) → Only class polynomial_bytes → (p : Meaning) → IsPolynomial 1 p → Only class (polynomial_text (in_k p))

@@ -1,5 +1,6 @@
 -- The monomials of a polynomial in k have falling powers, and its coefficients are theirs.
-use Rattle.std.specs.Prelude.{◌≡◌, ◌≢◌, ℕ, zero, suc, ◌+◌, ◌<◌, ◌≤◌, Bool, true, false, if◌then◌else◌, nat_eq, ℤ, pos, negsuc, List, [], ◌∷◌, length, map}
+use Rattle.std.specs.Prelude.{◌≡◌, ◌≢◌, ℕ, zero, suc, ◌+◌, ◌<◌, ◌≤◌, Bool, true}
+use Rattle.std.specs.Prelude.{false, if◌then◌else◌, nat_eq, ℤ, pos, negsuc, List, [], ◌∷◌, length, map}
 use Rattle.std.specs.Fmt.{digits}
 use Rattle.std.proofs.Common.{refl, ap, ◌∙◌, arith, lit<}
 use Rattle.ring_laws.specs.Meaning.{Meaning, items, parted-joined}
@@ -11,7 +12,7 @@ use Rattle.document_text.proofs.Totals.{number_at}
 use Rattle.cert_text.specs.PolynomialDocument.{constant_in_n, in_k}
 use Rattle.cert_text.specs.Printing.{monomial_in_k}
 use Rattle.cert_text.specs.Reading.{AreFalling, rest_text, coefficient_of}
-use Rattle.cert_text.proofs.CoefficientReading.{none_from, coefficient_first, coefficient_other}
+use Rattle.cert_text.proofs.CoefficientsAt.{none_from, coefficient_first, coefficient_other}
 
 -- the monomials of coefficients from the power j on, in front of others
 abbrev monomials : List Meaning → ℕ → List Monomial → List Monomial

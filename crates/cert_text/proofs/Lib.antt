@@ -7,10 +7,12 @@ mod Prefixes
 mod Signs
 mod MonomialReading
 mod SignedMonomials
+mod CoefficientsAt
 mod CoefficientReading
 mod FallingMonomials
 mod TrimmedCoefficients
 mod Lines
 mod SharedLines
+mod FieldsOfText
 mod ContentsReading
 mod KnownReadable

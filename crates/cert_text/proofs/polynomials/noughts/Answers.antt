@@ -3,7 +3,7 @@ use Rattle.std.proofs.lemmas.Result.{IfOk-weaker}
 use Rattle.std.specs.Prelude.{◌≡◌, pos, List}
 use Rattle.ring_laws.specs.declared.wholes.Whole.{Whole}
 use Rattle.cert_text.specs.Reading.{value_in}
-use Rattle.cert_text.proofs.CoefficientReading.{value_nought}
+use Rattle.cert_text.proofs.CoefficientsAt.{value_nought}
 use Rattle.cert_text.proofs.polynomials.noughts.Goals as goal
 
 -- each is a copy of the zero

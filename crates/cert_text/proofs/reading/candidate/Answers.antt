@@ -1,5 +1,6 @@
 use Rattle.cert_text.specs.Readable.{contents}
-use Rattle.cert_text.proofs.ContentsReading.{Fields, AreFields, Agrees, lines_explained, text_explained}
+use Rattle.cert_text.proofs.FieldsOfText.{Fields, AreFields, Agrees}
+use Rattle.cert_text.proofs.ContentsReading.{lines_explained, text_explained}
 use Rattle.cert_text.proofs.reading.candidate.Goals as goal
 
 -- the lines of a document that the text has are those of the one that is read
