@@ -3,7 +3,7 @@ use Rattle.std.proofs.Common.{◌≡◌, refl}
 use Rattle.std.specs.Prelude.{ℤ, pos, negsuc, [], ◌∷◌}
 use Rattle.ring_laws.specs.Meaning.{Meaning, number, listed}
 use Rattle.cert_text.specs.Readable.{Contents, contents}
-use Rattle.cert_checker.specs.Checks.{difference, multiple, HasCarrier, HasMultiplier, HasEquation, IsFirstFailed}
+use Rattle.cert_checker.specs.Checks.{difference, HasCarrier, HasMultiplier, HasEquation, IsFirstFailed}
 use Rattle.cert_checker.specs.declared.verdicts.Reason.TheVariants.{Carrier, Zero, Equation}
 
 -- k^2, and 2*k^3-3*k^2+k
