@@ -5,6 +5,7 @@ use Rattle.std.proofs.Common.{arith, ap, sym, ◌∙◌, subst, inl, inr}
 use Rattle.std.proofs.lemmas.Int.{ints, unsigned_abs-mul}
 use Rattle.std.proofs.lemmas.Nat.Gcd.{le_of_dvd, dvd_antisymm, dvd_trans}
 use Rattle.std.proofs.Math.Nat.{dvd_of_mul-dvd-mul_left, mul-dvd-mul_left, one-dvd, eq-zero_of_zero-dvd}
+use Rattle.ring_laws.specs.WholeDomain.{abs_nought}
 use Rattle.hypergeometric.specs.LinearForm.{LinearForm}
 use Rattle.hypergeometric.specs.FormOrder.{IsPositiveFirst, IsPrimitive}
 use Rattle.lin_form.specs.Forms.{form_with, multiple, IsGreatestDivisor}
@@ -117,11 +118,6 @@ divisor_of f a b c s g p q r x y = record {
   offset = subst (λ t. g ∣ t) r y.1;
   greatest = λ d u v w. y.2 d (x.2 d (subst (λ t. d ∣ t) (sym p) u) (subst (λ t. d ∣ t) (sym q) v)) (subst (λ t. d ∣ t) (sym r) w);
 }
-
-abs_nought : (z : ℤ) → unsigned_abs z ≡ 0 → z ≡ pos 0
-abs_nought (pos zero) e = refl
-abs_nought (pos (suc n)) e = cc
-abs_nought (negsuc n) e = cc
 
 -- it is positive and no greater than an offset can be
 pub divisor_within : (f : LinearForm) (g : ℕ) → f ≢ form_with (pos 0) (pos 0) (pos 0) → IsGreatestDivisor f g

@@ -6,25 +6,8 @@ use Rattle.std.proofs.lemmas.Int.{ints, quot_is, quot-rem, unsigned_abs-mul, fit
 use Rattle.std.proofs.lemmas.Nat.Gcd.{mod-eq-zero_of_dvd}
 use Rattle.std.proofs.Math.Nat.{div-le_self, dvd-mul_right}
 use Rattle.std.proofs.Math.IntN.{*ℤ_comm}
-
-abs_neg : (n : ℕ) → unsigned_abs (neg_ℤ (pos n)) ≡ n
-abs_neg zero = refl
-abs_neg (suc n) = refl
-
-abs_rem : (a d : ℤ) → unsigned_abs (int_rem a d) ≡ unsigned_abs a % unsigned_abs d
-abs_rem (pos a) d = refl
-abs_rem (negsuc a) d = abs_neg (suc a % unsigned_abs d)
-
-abs_div : (a d : ℤ) → unsigned_abs (int_div a d) ≡ unsigned_abs a / unsigned_abs d
-abs_div (pos a) (pos b) = refl
-abs_div (pos a) (negsuc b) = abs_neg (a / suc b)
-abs_div (negsuc a) (pos b) = abs_neg (suc a / b)
-abs_div (negsuc a) (negsuc b) = refl
-
-abs_nought : (z : ℤ) → unsigned_abs z ≡ 0 → z ≡ pos 0
-abs_nought (pos zero) e = refl
-abs_nought (pos (suc n)) e = cc
-abs_nought (negsuc n) e = cc
+use Rattle.ring_laws.specs.WholeDomain.{abs_nought}
+use Rattle.ring_laws.proofs.Quotients.{abs_rem, abs_div}
 
 abbrev pub coded_div : ℤ → ℤ → ℤ
 coded_div a b = cast_signed w64 (cast_unsigned w64 (int_div (cast_signed w64 (cast_unsigned w64 a)) (cast_signed w64 (cast_unsigned w64 b))))

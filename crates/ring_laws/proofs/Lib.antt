@@ -1,2 +1,2 @@
 mod KnownWholes
-mod Quotients
+pub mod Quotients

@@ -5,6 +5,7 @@ use Rattle.std.proofs.Math.Nat.{mul-add-mod_self_right, div-le_self}
 use Rattle.std.specs.Int.{cast_signed, cast_unsigned, w128}
 use Rattle.ring_laws.specs.Meaning.{number}
 use Rattle.ring_laws.specs.Wholes.{whole_algebra}
+use Rattle.ring_laws.specs.WholeDomain.{abs_nought}
 use Rattle.ring_laws.specs.declared.wholes.Whole.{Whole}
 use Rattle.ring_laws.specs.Division.{Divides}
 
@@ -12,20 +13,15 @@ abs_neg : (n : ℕ) → unsigned_abs (neg_ℤ (pos n)) ≡ n
 abs_neg zero = refl
 abs_neg (suc n) = refl
 
-abs_rem : (a d : ℤ) → unsigned_abs (int_rem a d) ≡ unsigned_abs a % unsigned_abs d
+pub abs_rem : (a d : ℤ) → unsigned_abs (int_rem a d) ≡ unsigned_abs a % unsigned_abs d
 abs_rem (pos a) d = refl
 abs_rem (negsuc a) d = abs_neg (suc a % unsigned_abs d)
 
-abs_div : (a d : ℤ) → unsigned_abs (int_div a d) ≡ unsigned_abs a / unsigned_abs d
+pub abs_div : (a d : ℤ) → unsigned_abs (int_div a d) ≡ unsigned_abs a / unsigned_abs d
 abs_div (pos a) (pos b) = refl
 abs_div (pos a) (negsuc b) = abs_neg (a / suc b)
 abs_div (negsuc a) (pos b) = abs_neg (suc a / b)
 abs_div (negsuc a) (negsuc b) = refl
-
-abs_nought : (z : ℤ) → unsigned_abs z ≡ 0 → z ≡ pos 0
-abs_nought (pos zero) e = refl
-abs_nought (pos (suc n)) e = cc
-abs_nought (negsuc n) e = cc
 
 rem_product : (q d : ℤ) → int_rem (q *ℤ d) d ≡ pos 0
 rem_product q d = abs_nought (int_rem (q *ℤ d) d) (abs_rem (q *ℤ d) d ∙ ap (λ n. n % unsigned_abs d) (unsigned_abs-mul q d)

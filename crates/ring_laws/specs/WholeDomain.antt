@@ -12,7 +12,8 @@ zero_factor zero n e = inl refl
 zero_factor (suc m) zero e = inr refl
 zero_factor (suc m) (suc n) e = absurd (omega arith)
 
-abs_nought : (z : ℤ) → unsigned_abs z ≡ 0 → z ≡ pos 0
+-- a number of magnitude 0 is 0
+pub abs_nought : (z : ℤ) → unsigned_abs z ≡ 0 → z ≡ pos 0
 abs_nought (pos zero) e = refl
 abs_nought (pos (suc n)) e = cc
 abs_nought (negsuc n) e = cc
