@@ -2,7 +2,7 @@
 #![tactic(auto)]
 
 use ek_io::{StdSink, StdSource};
-use ekhad_cli::{Status, refuse, run};
+use ekhad_cli::{Refusal, refuse, run};
 use std::alloc::{AllocError, Global};
 use std::env;
 use std::io::ErrorKind;
@@ -24,7 +24,7 @@ fn main(rt: HostRuntime) -> ExitCode {
     let mut err = StdSink::new(rt.stderr());
     let status = match words(&rt) {
         Ok(words) => run(rt.alloc(), &words, &mut input, &mut out, &mut err),
-        Err(_) => refuse(Status::Memory, &mut err),
+        Err(_) => refuse(rt.alloc(), Refusal::Memory, &mut err),
     };
     ExitCode::from(status.code())
 }

@@ -21,7 +21,7 @@ use Rattle.term_text.specs.declared.Monomial.{Monomial}
 use Rattle.term_text.specs.Powers.{IsRead, HasValueOf, powers_value}
 use Rattle.ekhad_cli.specs.Antidifference.{value_of, DividesAll, IsLeastAntidifference}
 use Rattle.ekhad_cli.specs.Answer.{scale_of, polynomial_value, coefficient, IsLeast, IsAntidifferenceOf}
-use Rattle.ekhad_cli.specs.Run.{IsAnswerText}
+use Rattle.ekhad_cli.specs.Commands.{IsAnswerText}
 use Rattle.ekhad_cli.proofs.Polynomials.{polynomial_of, polynomial_value_of, coefficient_of, polynomial_bounded}
 
 -- a list with a number other than 0 has a coefficient

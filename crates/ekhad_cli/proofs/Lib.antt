@@ -6,4 +6,4 @@ pub mod Antidifferences
 pub mod Polynomials
 pub mod Monomials
 pub mod Answering
-pub mod KnownBytes
+pub mod Outcomes

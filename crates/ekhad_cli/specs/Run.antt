@@ -1,56 +1,35 @@
 -- What a run of the program claims of its outputs.
-use Rattle.std.specs.Prelude.{codes, [], ◌∷◌, ◌⊎◌, ◌≡◌, ℕ, List}
+use Rattle.std.specs.Prelude.{◌≡◌, ◌⊎◌, ◌≤◌, ◌<◌, ℕ, suc, List, length, IfSome}
 use Rattle.std.specs.declared.option.Option.{Option}
 use Rattle.std.specs.Io.KnownBytes.{Appends}
-use Rattle.ek_io.specs.Transfer.{AppendsFront}
-use Rattle.document_text.specs.Document.{Document, document_text}
+use Rattle.ek_io.specs.Transfer.{AppendsFront, TakesBytes}
+use Rattle.ekhad_cli.specs.declared.words.Command.{Command}
 use Rattle.ekhad_cli.specs.declared.status.Status.{Status}
-use Rattle.ekhad_cli.specs.declared.status.Status.TheVariants.{Found, Empty, Usage, Syntax, Improper, TooLarge, Limit, Memory, ReadFault, WriteFault}
-use Rattle.ekhad_cli.specs.Answer.{IsAnswerTo}
+use Rattle.ekhad_cli.specs.declared.status.Status.TheVariants.{Found, Empty}
+use Rattle.ekhad_cli.specs.declared.refusal.Refusal.{Refusal}
+use Rattle.ekhad_cli.specs.declared.refusal.Refusal.TheVariants.{Usage}
+use Rattle.ekhad_cli.specs.Commands.{AreWordsOf, most_bytes, IsOutput, IsCause}
 
--- these bytes are the text of a document that answers the text
-abbrev pub IsAnswerText : List ℕ → List ℕ → Type 0
-IsAnswerText text written = (d : Document) × IsAnswerTo text d × (written ≡ document_text d)
+-- the run ends with an answer
+abbrev pub IsAnswered : Status → Type 0
+IsAnswered status = (status ≡ Found) ⊎ (status ≡ Empty)
 
--- the known bytes grew by the text of a document that answers the text
-abbrev pub GrewByAnswer : List ℕ → Option (List ℕ) → Option (List ℕ) → Type 0
-GrewByAnswer text before after = (d : Document) × IsAnswerTo text d × Appends before after (document_text d)
+-- the bytes that were read are within the limit, and the known bytes grew by what the command writes of them with this status
+abbrev pub GrewByOutput : Command → List ℕ → Status → Option (List ℕ) → Option (List ℕ) → Type 0
+GrewByOutput command bytes status before after =
+    (length bytes ≤ most_bytes command) × (text : List ℕ) × IsOutput command bytes status text × Appends before after text
 
--- the known bytes grew by a front of the text of a document that answers the text, and not by all of it
-abbrev pub GrewByFront : List ℕ → Option (List ℕ) → Option (List ℕ) → Type 0
-GrewByFront text before after =
-    (d : Document) × IsAnswerTo text d × AppendsFront before after (document_text d)
+-- the known bytes grew by a front of what the command writes, and not by all of it
+abbrev pub GrewByFront : Command → List ℕ → Option (List ℕ) → Option (List ℕ) → Type 0
+GrewByFront command bytes before after =
+    (status : Status) × (text : List ℕ) × IsOutput command bytes status text × AppendsFront before after text
 
--- the words of the one command
-abbrev pub AreGosper : List (List ℕ) → Type 0
-AreGosper words = words ≡ codes "gosper" ∷ []
+-- the words are none of the program's, or their command refuses the bytes that the source held, where it tells them
+abbrev pub IsCaused : List (List ℕ) → Option (List ℕ) → Refusal → Type 0
+IsCaused words held refusal =
+    (refusal ≡ Usage) ⊎ ((command : Command) × AreWordsOf command words × IfSome held (λ bytes. IsCause command bytes refusal))
 
--- the line of a status on err
-abbrev pub fault_text : Status → List ℕ
-fault_text Found = []
-fault_text Empty = []
-fault_text Usage = codes "ekhad: usage\n"
-fault_text Syntax = codes "ekhad: syntax\n"
-fault_text Improper = codes "ekhad: improper\n"
-fault_text TooLarge = codes "ekhad: too large\n"
-fault_text Limit = codes "ekhad: limit: input bytes 65537\n"
-fault_text Memory = codes "ekhad: memory\n"
-fault_text ReadFault = codes "ekhad: read fault\n"
-fault_text WriteFault = codes "ekhad: write fault\n"
-
--- the known bytes grew by the line, or by a front of it, and then only where the fact holds
-abbrev pub GrewByLine : Option (List ℕ) → Option (List ℕ) → List ℕ → Type 0 → Type 0
-GrewByLine before after line fault = Appends before after line ⊎ (fault × AppendsFront before after line)
-
--- the exit status
-abbrev pub code_of : Status → ℕ
-code_of Found = 0
-code_of Empty = 1
-code_of Usage = 2
-code_of Syntax = 3
-code_of Improper = 4
-code_of TooLarge = 5
-code_of Limit = 6
-code_of Memory = 7
-code_of ReadFault = 8
-code_of WriteFault = 9
+-- where the bytes of the source are more than the command reads, one more than those are taken
+abbrev pub TakesTooMany : List (List ℕ) → Option (List ℕ) → Option (List ℕ) → Type 0
+TakesTooMany words held left = (command : Command) × AreWordsOf command words
+    × IfSome held (λ bytes. most_bytes command < length bytes → TakesBytes held left (suc (most_bytes command)))

@@ -1,16 +1,24 @@
 //! The program as a library: from the words and the bytes that come in to the bytes that go out.
 //!
 //! Input: the words after the program's name, a source, two sinks. Output: a `Status`, by `run`.
-//! What an answer is stands in `specs/Answer.antt`, what a run claims of its outputs in `specs/Run.antt`.
-//! Read `status.rt` (how a run ends), `antidifference.rt` (the numbers of the claim), `gosper.rt` (the document of a text), `program.rt`.
+//! What an answer is stands in `specs/Answer.antt`, what each command writes and why it refuses in `specs/Commands.antt`, the lines of
+//! the refusals in `specs/Refusals.antt`, what a run claims of its outputs in `specs/Run.antt`.
+//! Read `words.rt` (the commands), `status.rt` and `refusal.rt` (how a run ends, and what it then says), `antidifference.rt` (the
+//! numbers of the claim), `gosper.rt` (the document of a text), `checking.rt` (the verdict on a document), `program.rt`.
 #![tactic(auto)]
 
 mod antidifference;
+mod checking;
 mod gosper;
+mod output;
 mod program;
+mod refusal;
 mod status;
 #[cfg(test)]
 mod tests;
+mod words;
 
-pub use program::{refuse, run};
+pub use program::run;
+pub use refusal::{Refusal, RunLimit, refuse};
 pub use status::Status;
+pub use words::Command;

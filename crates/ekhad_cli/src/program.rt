@@ -1,102 +1,123 @@
 //! A run of the program: its words, its input and its two outputs.
 
-ghost use Rattle.std.specs.Prelude.{◌≡◌, ◌≢◌, ◌↔◌, ◌⊎◌, ◌≤◌, ◌<◌, ℕ, List, length, map, string_bytes, codes, IsTrue, Some, Err, IfOk, IfErr, IfSome, OnOk};
-ghost use Rattle.std.specs.Io.KnownBytes.{IsAtEnd, Keeps, Appends};
+ghost use Rattle.std.specs.Prelude.{◌≡◌, ◌≢◌, ◌↔◌, ◌≤◌, ◌<◌, ℕ, suc, List, length, map, string_bytes, Some, Err, IfOk, IfErr, IfSome, OnOk};
+ghost use Rattle.std.specs.Io.KnownBytes.{IsAtEnd, Keeps};
 ghost use Rattle.ek_io.specs.Faults.{Rose};
 ghost use Rattle.ek_io.specs.Transfer.{TakesBytes};
-ghost use Rattle.hypergeometric.specs.Tree.{Tree};
-ghost use Rattle.term_text.specs.PowersTree.{IsTreeOf};
-ghost use Rattle.ekhad_cli.specs.Run.{IsAnswerText, GrewByAnswer, GrewByFront, AreGosper, fault_text, GrewByLine};
+ghost use Rattle.ekhad_cli.specs.Refusals.{line_text, status_of, IsInside, GrewByLine};
+ghost use Rattle.ekhad_cli.specs.Commands.{AreWordsOf, most_bytes, byte_limit, IsAnswerText, IsOutput, IsCause};
+ghost use Rattle.ekhad_cli.specs.Run.{IsAnswered, GrewByOutput, GrewByFront, IsCaused, TakesTooMany};
 
+use crate::checking::check;
 use crate::gosper::gosper;
-use crate::status::{Status, fault_line};
+use crate::output::Output;
+use crate::refusal::{Refusal, RunLimit, refuse};
+use crate::status::Status;
+use crate::words::{Command, command_of};
 use cert_text::print_poly_doc;
 use ek_io::{ReadEnd, Sink, Source, read_all, write_all_counted};
 use ring_laws::RingFault;
 use std::alloc::Global;
 use term_text::{PowersFault, read_powers};
 
-/// The most bytes of an input.
-const INPUT_BYTES: usize = 65_536;
-
-fn is_gosper(word: &str) -> bool
-    ensures { IsTrue result ↔ (word.now ≡ codes "gosper") }
-{
-    word == "gosper"
-}
-
-// Whether the words are those of the one command.
-fn are_gosper(words: &[String]) -> bool
-    ensures { IsTrue result ↔ AreGosper (map string_bytes words.now) }
-{
-    match words {
-        [word] => is_gosper(word.as_str()),
-        _ => false,
-    }
-}
-
-// The text of the document that answers an input.
-fn answer_text(alloc: Global, input: &[u8]) -> Result<Vec<u8>, Status>
-    ensures found { IfOk result (λ text. IsAnswerText input.now text.items) }
-    ensures syntax { result ≡ Err Status.Syntax → (tree : Tree) → IsTreeOf input.now tree → ⊥ }
-    ensures causes { IfErr result (λ status. (status ≡ Status.Syntax) ⊎ (status ≡ Status.Memory)) }
+// The document that answers a term, which is read as a text.
+fn answer_term(alloc: Global, input: &[u8]) -> Result<Output, Refusal>
+    ensures output { IfOk result (λ output. (output.status ≡ Status.Found) × IsAnswerText input.now output.text.items) }
+    ensures cause { length input.now ≤ most_bytes Command.Gosper → IfErr result (λ refusal. IsCause Command.Gosper input.now refusal) }
+    ensures inside { IfErr result IsInside }
 {
     let monomials = match read_powers(alloc, input) {
         Ok(monomials) => monomials,
-        Err(PowersFault::Refused) => return Err(Status::Syntax),
-        Err(PowersFault::Memory) => return Err(Status::Memory),
+        Err(PowersFault::Refused) => return Err(Refusal::Syntax),
+        Err(PowersFault::Memory) => return Err(Refusal::Memory),
     };
     let doc = match gosper(alloc, &monomials) {
         Ok(doc) => doc,
         Err(RingFault::TooLarge) => unreachable!(),
-        Err(RingFault::Memory) => return Err(Status::Memory),
+        Err(RingFault::Memory) => return Err(Refusal::Memory),
     };
     match print_poly_doc(alloc, &doc) {
-        Ok(text) => Ok(text),
-        Err(_) => Err(Status::Memory),
+        Ok(text) => Ok(Output {
+            text,
+            status: Status::Found,
+        }),
+        Err(_) => Err(Refusal::Memory),
     }
 }
 
-// The text of the document that answers a source, which is read to its end.
-fn answer<S: Source>(alloc: Global, words: &[String], input: &mut S) -> Result<Vec<u8>, Status>
-    ensures found { IfOk result (λ text. (bytes : List ℕ) → S.left input.old ≡ Some bytes → IsAnswerText bytes text.items) }
+// The most bytes that a command reads.
+fn most_bytes_of(command: Command) -> usize
+    ensures most { result ≡ most_bytes command }
+    ensures few { result ≤ 16777216 }
+{
+    match command {
+        Command::Gosper => 65_536,
+        Command::Check => 16_777_216,
+    }
+}
+
+// The limit that this is.
+fn byte_limit_of(command: Command) -> RunLimit
+    ensures limit { result ≡ byte_limit command }
+{
+    match command {
+        Command::Gosper => RunLimit::InputBytes,
+        Command::Check => RunLimit::DocumentBytes,
+    }
+}
+
+// The bytes of a source, up to its end.
+fn bytes_of<S: Source>(alloc: Global, command: Command, input: &mut S) -> Result<Vec<u8>, Refusal>
+    ensures whole { IfOk result (λ bytes. IfSome (S.left input.old) (λ held. bytes.items ≡ held)) }
     ensures end { OnOk result (IsAtEnd (S.left input.new)) }
-    ensures within { OnOk result (IfSome (S.left input.old) (λ bytes. length bytes ≤ 65536)) }
-    ensures words { OnOk result (AreGosper (map string_bytes words.now)) }
-    ensures usage { result ≡ Err Status.Usage ↔ ¬ (AreGosper (map string_bytes words.now)) }
-    ensures unread { result ≡ Err Status.Usage → input.new ≡ input.old }
-    ensures syntax { result ≡ Err Status.Syntax → (bytes : List ℕ) → S.left input.old ≡ Some bytes
-        → (length bytes ≤ 65536) × ((tree : Tree) → IsTreeOf bytes tree → ⊥) }
-    ensures limit { result ≡ Err Status.Limit → (bytes : List ℕ) → S.left input.old ≡ Some bytes → 65536 < length bytes }
-    ensures limit_taken { result ≡ Err Status.Limit → TakesBytes (S.left input.old) (S.left input.new) 65537 }
-    ensures read_fault { result ≡ Err Status.ReadFault → Rose (S.faults input.old) (S.faults input.new) }
-    ensures causes { IfErr result (λ status. (status ≡ Status.Usage) ⊎ ((status ≡ Status.Syntax) ⊎ ((status ≡ Status.Limit)
-        ⊎ ((status ≡ Status.Memory) ⊎ (status ≡ Status.ReadFault))))) }
+    ensures within { IfOk result (λ bytes. length bytes.items ≤ most_bytes command) }
+    ensures cause { IfErr result (λ refusal. IfSome (S.left input.old) (λ held. IsCause command held refusal)) }
+    ensures limit_taken { (limit : RunLimit) (counted : ℕ) → result ≡ Err (Refusal.Limit limit counted)
+        → TakesBytes (S.left input.old) (S.left input.new) (suc (most_bytes command)) }
+    ensures read_fault { result ≡ Err Refusal.ReadFault → Rose (S.faults input.old) (S.faults input.new) }
+    ensures usage { result ≢ Err Refusal.Usage }
+    ensures write_fault { result ≢ Err Refusal.WriteFault }
 {
-    if !are_gosper(words) {
-        return Err(Status::Usage);
-    }
-    match read_all(alloc, input, INPUT_BYTES) {
-        Ok(bytes) => answer_text(alloc, &bytes),
-        Err(ReadEnd::Fault) => Err(Status::ReadFault),
-        Err(ReadEnd::Limit(_)) => Err(Status::Limit),
-        Err(ReadEnd::Memory) => Err(Status::Memory),
+    match read_all(alloc, input, most_bytes_of(command)) {
+        Ok(bytes) => Ok(bytes),
+        Err(ReadEnd::Fault) => Err(Refusal::ReadFault),
+        Err(ReadEnd::Limit(counted)) => Err(Refusal::Limit {
+            limit: byte_limit_of(command),
+            counted,
+        }),
+        Err(ReadEnd::Memory) => Err(Refusal::Memory),
     }
 }
 
-/// Ends a run that gave no document: writes the line of the status to `err`, whose own faults change nothing.
-pub fn refuse<E: Sink>(status: Status, err: &mut E) -> Status
-    ensures same { result ≡ status }
-    ensures line { GrewByLine (E.written err.old) (E.written err.new) (fault_text status) (Rose (E.faults err.old) (E.faults err.new)) }
+// What the command of the words writes of the bytes of a source, which is read to its end.
+fn answer<S: Source>(alloc: Global, words: &[String], input: &mut S) -> Result<Output, Refusal>
+    ensures output { IfOk result (λ output. (command : Command) × AreWordsOf command (map string_bytes words.now)
+        × IfSome (S.left input.old) (λ bytes. (length bytes ≤ most_bytes command) × IsOutput command bytes output.status output.text.items)) }
+    ensures answered { IfOk result (λ output. IsAnswered output.status) }
+    ensures end { OnOk result (IsAtEnd (S.left input.new)) }
+    ensures cause { IfErr result (IsCaused (map string_bytes words.now) (S.left input.old)) }
+    ensures usage { result ≡ Err Refusal.Usage ↔ ((command : Command) → ¬ AreWordsOf command (map string_bytes words.now)) }
+    ensures unread { result ≡ Err Refusal.Usage → input.new ≡ input.old }
+    ensures limit_taken { (limit : RunLimit) (counted : ℕ) → result ≡ Err (Refusal.Limit limit counted)
+        → TakesTooMany (map string_bytes words.now) (S.left input.old) (S.left input.new) }
+    ensures read_fault { result ≡ Err Refusal.ReadFault → Rose (S.faults input.old) (S.faults input.new) }
+    ensures write_fault { result ≢ Err Refusal.WriteFault }
 {
-    let _ = write_all_counted(err, fault_line(status).as_bytes());
-    status
+    let Some(command) = command_of(words) else {
+        return Err(Refusal::Usage);
+    };
+    let bytes = bytes_of(alloc, command, input)?;
+    match command {
+        Command::Gosper => answer_term(alloc, &bytes),
+        Command::Check => check(alloc, &bytes),
+    }
 }
 
 /// Runs the program on its words (those after its name), its input and its two outputs.
 ///
-/// The word `gosper` reads a term and writes its document to `out`; a refusal writes nothing to `out` and a line to `err`. The clauses
-/// on bytes speak of a source and of sinks that tell their bytes; those on faults hold for every one.
+/// The word `gosper` reads a term and writes its document to `out`; `check` reads a document and writes the verdict on it. A refusal
+/// writes nothing to `out` and a line to `err`. The clauses on bytes speak of a source and of sinks that tell their bytes; those on
+/// faults hold for every one.
 pub fn run<S: Source, O: Sink, E: Sink>(
     alloc: Global,
     words: &[String],
@@ -104,37 +125,35 @@ pub fn run<S: Source, O: Sink, E: Sink>(
     out: &mut O,
     err: &mut E,
 ) -> Status
-    // Found: `out` grew by the text of a document that answers the text that the source held, all of which was read.
-    ensures found { result ≡ Status.Found → (bytes : List ℕ) → S.left input.old ≡ Some bytes
-        → GrewByAnswer bytes (O.written out.old) (O.written out.new) }
-    ensures end { result ≡ Status.Found → IsAtEnd (S.left input.new) }
-    ensures within { result ≡ Status.Found → IfSome (S.left input.old) (λ bytes. length bytes ≤ 65536) }
+    // An answer: `out` grew by what the command writes of the bytes that the source held, all of which were read.
+    ensures written { IsAnswered result → (command : Command) × AreWordsOf command (map string_bytes words.now)
+        × IfSome (S.left input.old) (λ bytes. GrewByOutput command bytes result (O.written out.old) (O.written out.new)) }
+    ensures end { IsAnswered result → IsAtEnd (S.left input.new) }
+    ensures no_line { IsAnswered result → Keeps (E.written err.old) (E.written err.new) }
 
-    // A refusal leaves `out` as it was; a fault in writing leaves a front of the text of such a document.
-    ensures quiet { result ≢ Status.Found → result ≢ Status.WriteFault → Keeps (O.written out.old) (O.written out.new) }
-    ensures front { result ≡ Status.WriteFault → (bytes : List ℕ) → S.left input.old ≡ Some bytes
-        → GrewByFront bytes (O.written out.old) (O.written out.new) }
+    // A refusal leaves `out` as it was; a fault in writing leaves a front of such a text.
+    ensures quiet { ¬ IsAnswered result → result ≢ Status.WriteFault → Keeps (O.written out.old) (O.written out.new) }
+    ensures front { result ≡ Status.WriteFault → (command : Command) × AreWordsOf command (map string_bytes words.now)
+        × IfSome (S.left input.old) (λ bytes. GrewByFront command bytes (O.written out.old) (O.written out.new)) }
 
-    // When each other answer comes. Want of memory may come in place of any but Usage.
-    ensures usage { result ≡ Status.Usage ↔ ¬ (AreGosper (map string_bytes words.now)) }
+    // It has its cause, and `err` grew by its one line, or by a front of it where the count of faults of `err` rose.
+    ensures line { ¬ IsAnswered result → (refusal : Refusal) × (result ≡ status_of refusal)
+        × IsCaused (map string_bytes words.now) (S.left input.old) refusal
+        × GrewByLine (E.written err.old) (E.written err.new) (line_text refusal) (Rose (E.faults err.old) (E.faults err.new)) }
+
+    // What else is known of some of them. Want of memory may come in place of any but Usage.
+    ensures usage { result ≡ Status.Usage ↔ ((command : Command) → ¬ AreWordsOf command (map string_bytes words.now)) }
     ensures unread { result ≡ Status.Usage → input.new ≡ input.old }
-    ensures syntax { result ≡ Status.Syntax → (bytes : List ℕ) → S.left input.old ≡ Some bytes
-        → (length bytes ≤ 65536) × ((tree : Tree) → IsTreeOf bytes tree → ⊥) }
-    ensures limit { result ≡ Status.Limit → (bytes : List ℕ) → S.left input.old ≡ Some bytes → 65536 < length bytes }
-    ensures limit_taken { result ≡ Status.Limit → TakesBytes (S.left input.old) (S.left input.new) 65537 }
+    ensures limit_taken { result ≡ Status.Limit → TakesTooMany (map string_bytes words.now) (S.left input.old) (S.left input.new) }
     ensures read_fault { result ≡ Status.ReadFault → Rose (S.faults input.old) (S.faults input.new) }
     ensures write_fault { result ≡ Status.WriteFault → Rose (O.faults out.old) (O.faults out.new) }
-    ensures answers { (result ≢ Status.Empty) × (result ≢ Status.Improper) × (result ≢ Status.TooLarge) }
-
-    // `err` grew by the one line of the answer, or by a front of it where its own count of faults rose.
-    ensures line { GrewByLine (E.written err.old) (E.written err.new) (fault_text result) (Rose (E.faults err.old) (E.faults err.new)) }
 {
-    let text = match answer(alloc, words, input) {
-        Ok(text) => text,
-        Err(status) => return refuse(status, err),
+    let output = match answer(alloc, words, input) {
+        Ok(output) => output,
+        Err(refusal) => return refuse(alloc, refusal, err),
     };
-    match write_all_counted(out, &text) {
-        Ok(()) => Status::Found,
-        Err(_) => refuse(Status::WriteFault, err),
+    match write_all_counted(out, &output.text) {
+        Ok(()) => output.status,
+        Err(_) => refuse(alloc, Refusal::WriteFault, err),
     }
 }

@@ -1,14 +1,14 @@
-//! How a run ends, and what it then says.
+//! How a run ends.
 
 ghost use Rattle.std.specs.Prelude.{◌≡◌};
-ghost use Rattle.ekhad_cli.specs.Run.{code_of, fault_text};
+ghost use Rattle.ekhad_cli.specs.Refusals.{code_of};
 
 /// How a run ended.
 #[derive(Clone, Copy, Debug, PartialEq, Eq, Drop)]
 pub enum Status {
-    /// A document with a found recurrence was written.
+    /// A document with a found recurrence was written, or `check` accepted.
     Found,
-    /// The document has no found recurrence.
+    /// The document has no found recurrence, or `check` rejected.
     Empty,
     /// The words are none of the program's.
     Usage,
@@ -34,22 +34,5 @@ impl Status {
         ensures code { result ≡ code_of self }
     {
         self as u8
-    }
-}
-
-// The line that goes to the error output.
-pub(crate) fn fault_line(status: Status) -> &'static str
-    ensures { result.now ≡ fault_text status }
-{
-    match status {
-        Status::Found | Status::Empty => "",
-        Status::Usage => "ekhad: usage\n",
-        Status::Syntax => "ekhad: syntax\n",
-        Status::Improper => "ekhad: improper\n",
-        Status::TooLarge => "ekhad: too large\n",
-        Status::Limit => "ekhad: limit: input bytes 65537\n",
-        Status::Memory => "ekhad: memory\n",
-        Status::ReadFault => "ekhad: read fault\n",
-        Status::WriteFault => "ekhad: write fault\n",
     }
 }

@@ -50,14 +50,15 @@ fn outcome_of(
     Ok(Outcome { status, out, err })
 }
 
-// The document of a polynomial: its term's polynomial and scale, the multiplier and Y.
+// The document of a polynomial: its term's polynomial, the scales of the term and the carrier, the multiplier and Y.
 fn document(
     alloc: Global,
     poly: &str,
-    scale: &str,
+    scales: [&str; 2],
     multiplier: &str,
     y: &str,
 ) -> Result<String, AllocError> {
+    let [scale, carrier_scale] = scales;
     format!(in alloc;
         "ekhad 1\n\
          command gosper\n\
@@ -67,7 +68,7 @@ fn document(
          q 1; -\n\
          r 1; -\n\
          a {multiplier}\n\
-         K poly 1; scale {scale}; nbase 1; kbase 1; up -; down -; over -; guard -\n\
+         K poly 1; scale {carrier_scale}; nbase 1; kbase 1; up -; down -; over -; guard -\n\
          Y {y}\n\
          D -\n\
          Rtop 1; -\n\
@@ -138,7 +139,7 @@ fn documents_of_polynomials(rt: HostRuntime) {
         ),
     ];
     for (text, poly, scale, multiplier, y) in rows {
-        let wanted = document(alloc, poly, scale, multiplier, y);
+        let wanted = document(alloc, poly, [scale, scale], multiplier, y);
         assert!(rt; writes(&rt, text.as_bytes(), wanted, &WHOLE), "{text}");
     }
 }
@@ -159,6 +160,67 @@ fn other_texts_are_refused(rt: HostRuntime) {
     assert!(rt; refuses(&rt, "zeil", b"k", Status::Usage, "ekhad: usage\n", &WHOLE));
 }
 
+// Whether `check` answers the document of k^2 so, with these lines for the multiplier, the scale of the carrier and Y.
+fn is_verdict(rt: &HostRuntime, lines: [&str; 3], status: Status, out: &str, err: &str) -> bool {
+    let [multiplier, carrier_scale, y] = lines;
+    let Ok(text) = document(rt.alloc(), "k^2", ["1", carrier_scale], multiplier, y) else {
+        return false;
+    };
+    match outcome_of(rt.alloc(), "check", text.as_bytes(), &WHOLE) {
+        Ok(outcome) => {
+            outcome.status == status
+                && outcome.out.bytes() == out.as_bytes()
+                && outcome.err.bytes() == err.as_bytes()
+        }
+        Err(_) => false,
+    }
+}
+
+#[test]
+fn verdicts_on_documents(rt: HostRuntime) {
+    let y = "2*k^3-3*k^2+k";
+    let large = "170141183460469231731687303715884105727*k^2";
+    let rows = [
+        ("6", "1", y, Status::Found, "accepted\n", ""),
+        ("5", "1", y, Status::Empty, "rejected 0 equation\n", ""),
+        ("0", "1", "0", Status::Empty, "rejected 0 zero\n", ""),
+        ("6", "2", y, Status::Empty, "rejected 0 carrier\n", ""),
+        (
+            "6",
+            "1",
+            large,
+            Status::TooLarge,
+            "",
+            "ekhad: too large: claim 0\n",
+        ),
+        ("6", "0", y, Status::Syntax, "", "ekhad: syntax: line 9\n"),
+    ];
+    for (multiplier, carrier_scale, y, status, out, err) in rows {
+        assert!(rt;
+            is_verdict(&rt, [multiplier, carrier_scale, y], status, out, err),
+            "{y}"
+        );
+    }
+}
+
+#[test]
+fn texts_that_are_no_document(rt: HostRuntime) {
+    let term = "term poly k^2; scale 1; nbase 1; kbase 1; up -; down -; over -; guard -";
+    let rows = [
+        ("ekhad 1\ncommand gosper\n", "\n", "ekhad: syntax: line 4\n"),
+        ("ekhad 1\ncommand gosper\n", "", "ekhad: syntax: line 3\n"),
+        ("", " ", "ekhad: syntax: line 1\n"),
+    ];
+    for (front, back, line) in rows {
+        let text = format!(in rt.alloc(); "{front}{term}{back}");
+        let refused = match text {
+            Ok(text) => refuses(&rt, "check", text.as_bytes(), Status::Syntax, line, &WHOLE),
+            Err(_) => false,
+        };
+        assert!(rt; refused, "{line}");
+    }
+}
+
 #[test]
 fn pieces_of_any_size(rt: HostRuntime) {
     for piece in [1, 5, 4_096] {
@@ -167,7 +229,7 @@ fn pieces_of_any_size(rt: HostRuntime) {
             source_fails: &[],
             out_fails: &[],
         };
-        let wanted = document(rt.alloc(), "k^2", "1", "6", "2*k^3-3*k^2+k");
+        let wanted = document(rt.alloc(), "k^2", ["1", "1"], "6", "2*k^3-3*k^2+k");
         assert!(rt; writes(&rt, b"k^2", wanted, &outside), "{piece}");
     }
 }

@@ -1,6 +1,22 @@
-use Rattle.std.proofs.Common.{ap, ◌∙◌, sym, Err}
+use Rattle.std.proofs.Common.{sym, ◌∙◌}
+use Rattle.ekhad_cli.proofs.Outcomes.{caused, grew, grew_by_front, write_fault_caused}
 use Rattle.ekhad_cli.proofs.program.run.Goals as goal
 
--- the answer is the status that ends the run
-pub returns-in-Err-clause-syntax : goal.returns-in-Err-clause-syntax
-returns-in-Err-clause-syntax g c = λ is bytes known. c.in-Err.ensures.syntax (ap Err (sym c.refuse.ensures.same ∙ is)) bytes known
+-- what is said has its cause
+pub returns-in-Err-clause-line : goal.returns-in-Err-clause-line
+returns-in-Err-clause-line g c = λ _.
+    let said = c.refuse.ensures.said in
+    (said.0, said.2, caused _ _ _ _ c.in-Err.ensures.cause said.1 (λ fixed. sym said.2 ∙ c.refuse.ensures.fixed fixed), said.3)
+
+-- what was read was answered, and the answer written
+pub returns-in-Ok-write_all_counted-clause-written : goal.returns-in-Ok-write_all_counted-clause-written
+returns-in-Ok-write_all_counted-clause-written g c = λ _. grew _ _ _ _ _ _ _ c.in-Ok.ensures.output c.deref.ensures.value c.in-Ok-write_all_counted.ensures.all
+
+-- or a front of it
+pub returns-clause-front : goal.returns-clause-front
+returns-clause-front g c = λ _. grew_by_front _ _ _ _ _ _ _ c.in-Ok.ensures.output c.deref.ensures.value c.in-Err-write_all_counted.ensures.front
+
+pub returns-clause-line : goal.returns-clause-line
+returns-clause-line g c = λ _.
+    let said = c.refuse-in-Err-write_all_counted.ensures.said in
+    (said.0, said.2, caused _ _ _ _ (write_fault_caused _ _ _ _ c.in-Ok.ensures.output) said.1 (λ fixed. sym said.2 ∙ c.refuse-in-Err-write_all_counted.ensures.fixed fixed), said.3)

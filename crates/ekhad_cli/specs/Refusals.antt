@@ -1,0 +1,69 @@
+-- The line that each refusal says, and the status that it ends with.
+use Rattle.std.specs.Prelude.{codes, ◌⊎◌, ◌≡◌, ◌++◌, ℕ, List}
+use Rattle.std.specs.Fmt.{decimal}
+use Rattle.std.specs.declared.option.Option.{Option}
+use Rattle.std.specs.Io.KnownBytes.{Appends}
+use Rattle.ek_io.specs.Transfer.{AppendsFront}
+use Rattle.ekhad_cli.specs.declared.status.Status.{Status}
+use Rattle.ekhad_cli.specs.declared.status.Status.TheVariants as status
+use Rattle.ekhad_cli.specs.declared.refusal.RunLimit.{RunLimit}
+use Rattle.ekhad_cli.specs.declared.refusal.RunLimit.TheVariants.{InputBytes, DocumentBytes}
+use Rattle.ekhad_cli.specs.declared.refusal.Refusal.{Refusal}
+use Rattle.ekhad_cli.specs.declared.refusal.Refusal.TheVariants.{Usage, Syntax, Line, ClaimTooLarge, Memory, ReadFault, WriteFault}
+use Rattle.ekhad_cli.specs.declared.refusal.Refusal.TheVariants as refusal
+
+-- the exit status
+abbrev pub code_of : Status → ℕ
+code_of status.Found = 0
+code_of status.Empty = 1
+code_of status.Usage = 2
+code_of status.Syntax = 3
+code_of status.Improper = 4
+code_of status.TooLarge = 5
+code_of status.Limit = 6
+code_of status.Memory = 7
+code_of status.ReadFault = 8
+code_of status.WriteFault = 9
+
+abbrev pub status_of : Refusal → Status
+status_of Usage = status.Usage
+status_of Syntax = status.Syntax
+status_of (Line at) = status.Syntax
+status_of (ClaimTooLarge claim) = status.TooLarge
+status_of (refusal.Limit limit counted) = status.Limit
+status_of Memory = status.Memory
+status_of ReadFault = status.ReadFault
+status_of WriteFault = status.WriteFault
+
+abbrev pub limit_name : RunLimit → List ℕ
+limit_name InputBytes = codes "input bytes"
+limit_name DocumentBytes = codes "document bytes"
+
+-- the one line on err
+abbrev pub line_text : Refusal → List ℕ
+line_text Usage = codes "ekhad: usage\n"
+line_text Syntax = codes "ekhad: syntax\n"
+line_text (Line at) = codes "ekhad: syntax: line " ++ decimal at ++ codes "\n"
+line_text (ClaimTooLarge claim) = codes "ekhad: too large: claim " ++ decimal claim ++ codes "\n"
+line_text (refusal.Limit limit counted) = codes "ekhad: limit: " ++ limit_name limit ++ codes " " ++ decimal counted ++ codes "\n"
+line_text Memory = codes "ekhad: memory\n"
+line_text ReadFault = codes "ekhad: read fault\n"
+line_text WriteFault = codes "ekhad: write fault\n"
+
+-- the refusals whose line has no number
+abbrev pub IsFixed : Refusal → Type 0
+IsFixed (Line at) = ⊥
+IsFixed (ClaimTooLarge claim) = ⊥
+IsFixed (refusal.Limit limit counted) = ⊥
+IsFixed _ = Unit {0}
+
+-- the refusals of the bytes that were read: the words and the outside are in order
+abbrev pub IsInside : Refusal → Type 0
+IsInside Usage = ⊥
+IsInside ReadFault = ⊥
+IsInside WriteFault = ⊥
+IsInside _ = Unit {0}
+
+-- the known bytes grew by the line, or by a front of it, and then only where the fact holds
+abbrev pub GrewByLine : Option (List ℕ) → Option (List ℕ) → List ℕ → Type 0 → Type 0
+GrewByLine before after line fault = Appends before after line ⊎ (fault × AppendsFront before after line)

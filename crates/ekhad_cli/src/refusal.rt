@@ -1,0 +1,117 @@
+//! Why a run gives no answer, and the line that it then says.
+
+ghost use Rattle.std.specs.Prelude.{◌≡◌, ◌⊎◌, IfOk, IsOk};
+ghost use Rattle.std.specs.Cow.{cow_str_bytes};
+ghost use Rattle.ek_io.specs.Faults.{Rose};
+ghost use Rattle.ekhad_cli.specs.Refusals.{limit_name, line_text, status_of, IsFixed, GrewByLine};
+
+use crate::status::Status;
+use ek_io::{Sink, write_all_counted};
+use std::alloc::{AllocError, Global};
+use std::borrow::CowStr;
+
+/// What is counted, where a limit is passed.
+#[derive(Clone, Copy, Debug, PartialEq, Eq, Drop)]
+pub enum RunLimit {
+    /// The bytes of a term: at most 65,536.
+    InputBytes,
+    /// The bytes of a document: at most 16,777,216.
+    DocumentBytes,
+}
+
+/// Why a run gives no answer.
+#[derive(Clone, Copy, Debug, PartialEq, Eq, Drop)]
+pub enum Refusal {
+    /// The words are none of the program's.
+    Usage,
+    /// The input is no term that is read.
+    Syntax,
+    /// The first line of the input, counted from 1, that no document has there after the lines before it.
+    Line { at: u32 },
+    /// The arithmetic of the check of a claim, counted from 0, is out of bounds.
+    ClaimTooLarge { claim: u32 },
+    /// A limit is passed, with what was counted.
+    Limit { limit: RunLimit, counted: u64 },
+    /// Memory was refused.
+    Memory,
+    /// The input could not be read.
+    ReadFault,
+    /// The output could not be written.
+    WriteFault,
+}
+
+impl Refusal {
+    /// How the run ends.
+    pub fn status(self) -> Status
+        ensures status { result ≡ status_of self }
+    {
+        match self {
+            Refusal::Usage => Status::Usage,
+            Refusal::Syntax | Refusal::Line { .. } => Status::Syntax,
+            Refusal::ClaimTooLarge { .. } => Status::TooLarge,
+            Refusal::Limit { .. } => Status::Limit,
+            Refusal::Memory => Status::Memory,
+            Refusal::ReadFault => Status::ReadFault,
+            Refusal::WriteFault => Status::WriteFault,
+        }
+    }
+}
+
+// The name of a limit, as it is said.
+fn name_of(limit: RunLimit) -> &'static str
+    ensures name { result.now ≡ limit_name limit }
+{
+    match limit {
+        RunLimit::InputBytes => "input bytes",
+        RunLimit::DocumentBytes => "document bytes",
+    }
+}
+
+// The line of a refusal. Only one with a number takes memory.
+fn line_of(alloc: Global, refusal: Refusal) -> Result<CowStr<'static>, AllocError>
+    ensures line { IfOk result (λ line. cow_str_bytes line ≡ line_text refusal) }
+    ensures fixed { IsFixed refusal → IsOk result }
+{
+    Ok(match refusal {
+        Refusal::Usage => CowStr::Borrowed("ekhad: usage\n"),
+        Refusal::Syntax => CowStr::Borrowed("ekhad: syntax\n"),
+        Refusal::Line { at } => CowStr::Owned(format!(in alloc; "ekhad: syntax: line {at}\n")?),
+        Refusal::ClaimTooLarge { claim } => {
+            CowStr::Owned(format!(in alloc; "ekhad: too large: claim {claim}\n")?)
+        }
+        Refusal::Limit { limit, counted } => {
+            let name = name_of(limit);
+            CowStr::Owned(format!(in alloc; "ekhad: limit: {name} {counted}\n")?)
+        }
+        Refusal::Memory => CowStr::Borrowed("ekhad: memory\n"),
+        Refusal::ReadFault => CowStr::Borrowed("ekhad: read fault\n"),
+        Refusal::WriteFault => CowStr::Borrowed("ekhad: write fault\n"),
+    })
+}
+
+// Writes a line to `err`, whose own faults change nothing.
+fn say<E: Sink>(line: &str, err: &mut E)
+    ensures line { GrewByLine (E.written err.old) (E.written err.new) line.now (Rose (E.faults err.old) (E.faults err.new)) }
+{
+    let _ = write_all_counted(err, line.as_bytes());
+}
+
+/// Ends a run that gives no answer: writes the line of the refusal to `err`, whose own faults change nothing.
+///
+/// Where there is no memory for the line, that is what is said, and the run ends with `Memory`.
+pub fn refuse<E: Sink>(alloc: Global, refusal: Refusal, err: &mut E) -> Status
+    ensures said { (said : Refusal) × ((said ≡ refusal) ⊎ (said ≡ Refusal.Memory)) × (result ≡ status_of said)
+        × GrewByLine (E.written err.old) (E.written err.new) (line_text said) (Rose (E.faults err.old) (E.faults err.new)) }
+    ensures fixed { IsFixed refusal → result ≡ status_of refusal }
+{
+    match line_of(alloc, refusal) {
+        Ok(line) => {
+            say(&line, err);
+            refusal.status()
+        }
+        Err(_) => {
+            say("ekhad: memory\n", err);
+            Status::Memory
+        }
+    }
+}
