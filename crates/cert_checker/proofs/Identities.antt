@@ -1,12 +1,11 @@
 -- The equation of polynomials is the identity at all whole points, and with it the claim telescopes the term.
-use Rattle.std.specs.Prelude.{◌≡◌, ◌≢◌, IsTrue, ℤ, pos, ◌+ℤ◌, ◌-ℤ◌, ◌*ℤ◌, neg_ℤ, List, [], ◌∷◌, length}
+use Rattle.std.specs.Prelude.{◌≡◌, ◌≢◌, IsTrue, ℤ, pos, ◌+ℤ◌, ◌-ℤ◌, ◌*ℤ◌, neg_ℤ, [], ◌∷◌}
 use Rattle.std.proofs.Common.{ap, sym, subst, ◌∙◌, arith}
 use Rattle.std.proofs.lemmas.Int.{ints}
 use Rattle.ring_laws.specs.Meaning.{Meaning}
 use Rattle.poly_laws.specs.Values.{value_at, level}
 use Rattle.poly_laws.proofs.Keeps.{value_at_keeps}
 use Rattle.poly_laws.proofs.ShiftLaws.{value_at_shift}
-use Rattle.poly_laws.proofs.Equal.{same_values}
 use Rattle.hypergeometric.specs.Fraction.{of_whole}
 use Rattle.hypergeometric.specs.PlainTerm.{plain_term, plain_claim}
 use Rattle.hypergeometric.specs.ProperTerm.{proper_value}
@@ -16,6 +15,7 @@ use Rattle.cert_text.specs.PolynomialDocument.{in_k}
 use Rattle.cert_text.specs.Readable.{Contents}
 use Rattle.cert_text.proofs.LiftedPolynomials.{in_k_value}
 use Rattle.cert_text.proofs.PolynomialClaims.{polynomial_document_telescopes}
+use Rattle.cert_text.proofs.OneDocument.{same_by_values}
 use Rattle.cert_checker.specs.Checks.{next_y, difference, multiple, HasCarrier, HasEquation, HasIdentity, ClaimTelescopes}
 
 -- the value of the difference
@@ -39,16 +39,6 @@ multiple_value d k =
 -- so the equation holds at each point
 pub identity_of : (d : Contents) → HasEquation d → HasIdentity d
 identity_of d e k = sym (multiple_value d k) ∙ ap (value_at (k ∷ [])) (sym e) ∙ difference_value d k
-
--- polynomials with the same value at each point are the same
-same_by_values : (x y : Meaning) → IsTrue ((level 1).passes x) → IsTrue ((level 1).passes y)
-    → ((k : ℤ) → value_at (k ∷ []) x ≡ value_at (k ∷ []) y) → x ≡ y
-same_by_values x y p q same = ap (λ z. z.0) (same_values 1 (x, p) (y, q) at_point)
-  where
-    at_point : (point : List ℤ) → length point ≡ 1 → value_at point x ≡ value_at point y
-    at_point [] e = absurd (omega (arith, e))
-    at_point (k ∷ []) e = same k
-    at_point (k ∷ j ∷ rest) e = absurd (omega (arith, e))
 
 -- and the identity gives the equation
 pub equation_of : (d : Contents) (left right : Meaning) → left ≡ difference d → right ≡ multiple d

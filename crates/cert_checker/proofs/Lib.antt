@@ -1,2 +1,5 @@
 mod Identities
+pub mod SmallCoefficients
+pub mod ShiftedPolynomials
+pub mod RightDocuments
 mod KnownChecks

@@ -3,6 +3,7 @@ pub mod LiftedPolynomials
 pub mod PolynomialClaims
 pub mod WrittenNumbers
 pub mod Assembled
+pub mod OneDocument
 mod Prefixes
 mod Signs
 mod MonomialReading

@@ -11,6 +11,7 @@ mod cutting;
 mod documents;
 mod faults;
 mod fields;
+mod laws;
 mod numbers;
 mod polynomials;
 mod printing;
@@ -18,6 +19,7 @@ mod reading;
 
 pub use documents::PolyDoc;
 pub use faults::{DocFault, EngineFault, LimitName, Place};
+pub use laws::text_determines_contents;
 pub use printing::print_poly_doc;
 pub use reading::read_poly_doc;
 

@@ -16,13 +16,16 @@ use Rattle.hypergeometric.specs.Tree.{Tree}
 use Rattle.hypergeometric.specs.TreeValue.{term_value}
 use Rattle.document_text.specs.Document.{Document, document_text}
 use Rattle.cert_text.specs.PolynomialDocument.{polynomial_document}
+use Rattle.cert_text.specs.Readable.{contents}
+use Rattle.cert_checker.specs.Checks.{AreInBounds}
+use Rattle.cert_checker.proofs.RightDocuments.{small_in_bounds}
 use Rattle.cert_text.proofs.PolynomialClaims.{polynomial_document_well_formed, polynomial_document_telescopes}
 use Rattle.term_text.specs.declared.Monomial.{Monomial}
 use Rattle.term_text.specs.Powers.{IsRead, HasValueOf, powers_value}
 use Rattle.ekhad_cli.specs.Antidifference.{value_of, DividesAll, IsLeastAntidifference}
 use Rattle.ekhad_cli.specs.Answer.{scale_of, polynomial_value, coefficient, IsLeast, IsAntidifferenceOf}
 use Rattle.ekhad_cli.specs.Commands.{IsAnswerText}
-use Rattle.ekhad_cli.proofs.Polynomials.{polynomial_of, polynomial_value_of, coefficient_of, polynomial_bounded}
+use Rattle.ekhad_cli.proofs.Polynomials.{polynomial_of, polynomial_value_of, coefficient_of, polynomial_bounded, polynomial_length, polynomial_within}
 
 -- a list with a number other than 0 has a coefficient
 pub some_item : (cs : List ℤ) (i : ℕ) → get_or cs i (pos 0) ≢ pos 0 → items (polynomial_of cs) ≢ []
@@ -44,20 +47,28 @@ least_of cs ys a least = record {
 
 -- the engine's numbers, as polynomials
 pub antidifference_of : (ms : List Monomial) (cs ys : List ℤ) (scale a : ℤ) (poly y : Meaning)
-    → poly ≡ polynomial_of cs → y ≡ polynomial_of ys → length cs ≤ 256 → length ys ≤ 256
+    → poly ≡ polynomial_of cs → y ≡ polynomial_of ys → length cs ≤ 5 → length ys ≤ 6
     → All (λ c. unsigned_abs c ≤ 5000000) cs → All (λ c. unsigned_abs c ≤ 1500000000) ys
-    → ((k : ℤ) → value_of cs k ≡ polynomial_value ms k) → scale ≡ scale_of ms → IsLeastAntidifference cs a ys
+    → ((k : ℤ) → value_of cs k ≡ polynomial_value ms k) → scale ≡ scale_of ms → IsLeastAntidifference cs a ys → unsigned_abs a ≤ 60
     → IsAntidifferenceOf ms poly scale a y
-antidifference_of ms cs ys scale a poly y p q few some small light values is least = record {
+antidifference_of ms cs ys scale a poly y p q few some small light values is least multiplier = record {
   term = record {
-    bounded = subst (IsPolynomial 1) (sym p)
-        (polynomial_bounded cs few (All-weaker (λ c. unsigned_abs c ≤ 5000000) (λ c. unsigned_abs c ≤ 1500000000) (λ c h. omega (arith, h)) cs small));
+    bounded = subst (IsPolynomial 1) (sym p) (polynomial_bounded cs (omega (arith, few)) weaker);
     values = λ k. ap (value_at (k ∷ [])) p ∙ polynomial_value_of cs k ∙ values k;
     scale_is = is;
+    degree = omega (arith, ap (λ m. length (items m)) p, polynomial_length cs, few);
   };
-  bounded = subst (IsPolynomial 1) (sym q) (polynomial_bounded ys some light);
+  bounded = subst (IsPolynomial 1) (sym q) (polynomial_bounded ys (omega (arith, some)) light);
   least = subst (λ m. IsLeast m a y) (sym p) (subst (λ m. IsLeast (polynomial_of cs) a m) (sym q) (least_of cs ys a least));
+  in_bounds = subst (λ m. AreInBounds (contents m scale a scale y)) (sym p)
+      (subst (λ m. AreInBounds (contents (polynomial_of cs) scale a scale m)) (sym q)
+      (small_in_bounds (contents (polynomial_of cs) scale a scale (polynomial_of ys)) (polynomial_bounded cs (omega (arith, few)) weaker)
+      (polynomial_bounded ys (omega (arith, some)) light) (omega (arith, polynomial_length cs, few)) (polynomial_within cs weaker)
+      (omega (arith, multiplier)) (omega (arith, polynomial_length ys, some)) (polynomial_within ys light)));
 }
+  where
+    weaker : All (λ c. unsigned_abs c ≤ 1500000000) cs
+    weaker = All-weaker (λ c. unsigned_abs c ≤ 5000000) (λ c. unsigned_abs c ≤ 1500000000) (λ c h. omega (arith, h)) cs small
 
 -- the sum of the monomials is the scale times the polynomial of the term
 scaled_value : (ms : List Monomial) (k : ℤ) → powers_value ms k ≡ scale_of ms *ℤ polynomial_value ms k
@@ -87,6 +98,17 @@ answered {poly} {y} {scale} {a} {carrier} input text root ms seen read values sa
         antidifference = found;
         document = refl;
         well_formed = polynomial_document_well_formed poly y scale a scale found.term.bounded some.1 found.bounded small some.0 light small some.0;
+        readable = record {
+          poly = found.term.bounded;
+          not_zero = some.1;
+          degree = found.term.degree;
+          scale = small;
+          scale_not_zero = some.0;
+          multiplier = light;
+          carrier_scale = small;
+          carrier_not_zero = some.0;
+          y = found.bounded;
+        };
         telescopes = polynomial_document_telescopes (term_value root) poly y scale a whole found.least.difference some.0;
       },
       printed ∙ ap (λ z. document_text (polynomial_document poly scale a z y)) same,

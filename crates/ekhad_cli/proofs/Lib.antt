@@ -7,3 +7,4 @@ pub mod Polynomials
 pub mod Monomials
 pub mod Answering
 pub mod Outcomes
+pub mod Accepted

@@ -9,7 +9,7 @@ use Rattle.ekhad_cli.specs.declared.status.Status.TheVariants as status
 use Rattle.ekhad_cli.specs.declared.refusal.Refusal.{Refusal}
 use Rattle.ekhad_cli.specs.declared.refusal.Refusal.TheVariants.{Usage, Memory, WriteFault}
 use Rattle.ekhad_cli.specs.Refusals.{status_of, IsFixed}
-use Rattle.ekhad_cli.specs.Commands.{AreWordsOf, most_bytes, IsOutput, IsCause}
+use Rattle.ekhad_cli.specs.Commands.{AreWordsOf, most_bytes, IsOutput}
 use Rattle.ekhad_cli.specs.Run.{IsCaused, GrewByOutput, GrewByFront}
 
 -- what holds of bytes where they are told gives what holds of them

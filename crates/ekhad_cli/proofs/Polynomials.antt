@@ -1,5 +1,6 @@
 -- Lists of numbers as polynomials: their values, their coefficients and their bounds.
 use Rattle.std.proofs.Common.{◌≡◌, ◌≢◌, ℕ, zero, suc, ◌<◌, ◌≤◌, ◌^◌, List, [], ◌∷◌, length, get_or, map, refl, ap, sym, ◌∙◌, arith, Result, Ok, Err}
+use Rattle.std.proofs.lemmas.List.{length-map}
 use Rattle.std.proofs.lemmas.Bool.{and_from}
 use Rattle.std.specs.Prelude.{ℤ, pos, negsuc, ◌+ℤ◌, ◌*ℤ◌, unsigned_abs, IsTrue, All}
 use Rattle.ring_laws.specs.Meaning.{Meaning, number, listed, items, parted-joined}
@@ -11,7 +12,8 @@ use Rattle.poly_laws.specs.Lists.{coefficient_at, trimmed, in_front, is_trimmed}
 use Rattle.poly_laws.specs.PolyAlgebra.{every_passes}
 use Rattle.poly_laws.specs.Values.{horner, value_at}
 use Rattle.poly_laws.proofs.Keeps.{of_list, whole_keeps}
-use Rattle.poly_laws.proofs.Trimming.{is_trimmed_trimmed}
+use Rattle.poly_laws.proofs.Trimming.{is_trimmed_trimmed, length-trimmed}
+use Rattle.cert_checker.proofs.SmallCoefficients.{number_at, AreWithin, trimmed_at}
 use Rattle.document_text.specs.WellFormed.{IsPolynomial}
 use Rattle.ekhad_cli.specs.Antidifference.{value_of}
 use Rattle.ekhad_cli.specs.Answer.{coefficient}
@@ -27,22 +29,14 @@ horner_numbers k (c ∷ cs) = ap (λ z. c +ℤ k *ℤ z) (horner_numbers k cs)
 pub polynomial_value_of : (cs : List ℤ) (k : ℤ) → value_at (k ∷ []) (polynomial_of cs) ≡ value_of cs k
 polynomial_value_of cs k = of_list whole_algebra.ops number_of whole_keeps k (map number cs) ∙ horner_numbers k cs
 
-in_front_at : (c : ℤ) (t : List Meaning) (i : ℕ)
-    → number_of (coefficient_at whole_algebra.ops (in_front whole_algebra.ops (number c) t) i) ≡ number_of (coefficient_at whole_algebra.ops (number c ∷ t) i)
-in_front_at (pos zero) [] zero = refl
-in_front_at (pos zero) [] (suc i) = refl
-in_front_at (pos (suc n)) [] i = refl
-in_front_at (negsuc n) [] i = refl
-in_front_at c (y ∷ ys) i = refl
-
-trimmed_at : (cs : List ℤ) (i : ℕ) → number_of (coefficient_at whole_algebra.ops (trimmed whole_algebra.ops (map number cs)) i) ≡ get_or cs i (pos 0)
-trimmed_at [] i = refl
-trimmed_at (c ∷ cs) zero = in_front_at c (trimmed whole_algebra.ops (map number cs)) 0
-trimmed_at (c ∷ cs) (suc i) = in_front_at c (trimmed whole_algebra.ops (map number cs)) (suc i) ∙ trimmed_at cs i
+number_in : (cs : List ℤ) (i : ℕ) → number_at (map number cs) i ≡ get_or cs i (pos 0)
+number_in [] i = refl
+number_in (c ∷ cs) zero = refl
+number_in (c ∷ cs) (suc i) = number_in cs i
 
 pub coefficient_of : (cs : List ℤ) (i : ℕ) → coefficient (polynomial_of cs) i ≡ get_or cs i (pos 0)
 coefficient_of cs i =
-    ap (λ xs. number_of (coefficient_at whole_algebra.ops xs i)) (parted-joined (trimmed whole_algebra.ops (map number cs))) ∙ trimmed_at cs i
+    ap (λ xs. number_of (coefficient_at whole_algebra.ops xs i)) (parted-joined (trimmed whole_algebra.ops (map number cs))) ∙ trimmed_at (map number cs) i ∙ number_in cs i
 
 in_front_numbers : (c : ℤ) (t : List Meaning) → IsTrue (every_passes is_number t) → IsTrue (every_passes is_number (in_front whole_algebra.ops (number c) t))
 in_front_numbers (pos zero) [] h = refl
@@ -54,20 +48,19 @@ trimmed_numbers : (cs : List ℤ) → IsTrue (every_passes is_number (trimmed wh
 trimmed_numbers [] = refl
 trimmed_numbers (c ∷ cs) = in_front_numbers c (trimmed whole_algebra.ops (map number cs)) (trimmed_numbers cs)
 
-in_front_length : (c : ℤ) (t : List Meaning) → length (in_front whole_algebra.ops (number c) t) ≤ suc (length t)
-in_front_length (pos zero) [] = omega arith
-in_front_length (pos (suc n)) [] = omega arith
-in_front_length (negsuc n) [] = omega arith
-in_front_length c (y ∷ ys) = omega arith
-
 pub trimmed_length : (cs : List ℤ) → length (trimmed whole_algebra.ops (map number cs)) ≤ length cs
-trimmed_length [] = omega arith
-trimmed_length (c ∷ cs) = omega (arith, in_front_length c (trimmed whole_algebra.ops (map number cs)), trimmed_length cs)
+trimmed_length cs = omega (arith, length-trimmed whole_algebra.ops (map number cs), length-map cs number)
+
+pub polynomial_length : (cs : List ℤ) → length (items (polynomial_of cs)) ≤ length cs
+polynomial_length cs = omega (arith, ap length (parted-joined (trimmed whole_algebra.ops (map number cs))), trimmed_length cs)
 
 small_at : (cs : List ℤ) (i : ℕ) → All (λ c. unsigned_abs c ≤ 1500000000) cs → unsigned_abs (get_or cs i (pos 0)) ≤ 1500000000
 small_at [] i h = omega arith
 small_at (c ∷ cs) zero h = h 0 (pos 0) (omega arith)
 small_at (c ∷ cs) (suc i) h = small_at cs i (λ j d k. h (suc j) d (omega arith))
+
+pub polynomial_within : (cs : List ℤ) → All (λ c. unsigned_abs c ≤ 1500000000) cs → AreWithin (2 ^ 31) (items (polynomial_of cs))
+polynomial_within cs small i = omega (arith, ap unsigned_abs (coefficient_of cs i), small_at cs i small)
 
 -- few small numbers are within the bounds of a polynomial
 pub polynomial_bounded : (cs : List ℤ) → length cs ≤ 256 → All (λ c. unsigned_abs c ≤ 1500000000) cs → IsPolynomial 1 (polynomial_of cs)
@@ -76,7 +69,7 @@ polynomial_bounded cs short small = record {
       (ap (every_passes is_number) (parted-joined (trimmed whole_algebra.ops (map number cs))) ∙ trimmed_numbers cs)
       (ap (is_trimmed whole_algebra.ops) (parted-joined (trimmed whole_algebra.ops (map number cs))) ∙ is_trimmed_trimmed whole_algebra.ops (map number cs));
   fits = (
-    omega (arith, ap length (parted-joined (trimmed whole_algebra.ops (map number cs))), trimmed_length cs, short),
+    omega (arith, polynomial_length cs, short),
     λ i. below (coefficient (polynomial_of cs) i) (omega (arith, ap unsigned_abs (coefficient_of cs i), small_at cs i small)),
   );
 }

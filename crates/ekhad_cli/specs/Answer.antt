@@ -1,5 +1,5 @@
 -- Which document answers a text: its term is that of the text, and its claim telescopes the value of the text's own tree.
-use Rattle.std.specs.Prelude.{◌≡◌, ℕ, ℤ, pos, ◌+ℤ◌, ◌-ℤ◌, ◌*ℤ◌, ◌<ℤ◌, unsigned_abs, List, [], ◌∷◌}
+use Rattle.std.specs.Prelude.{◌≡◌, ◌≤◌, ℕ, length, ℤ, pos, ◌+ℤ◌, ◌-ℤ◌, ◌*ℤ◌, ◌<ℤ◌, unsigned_abs, List, [], ◌∷◌}
 use Rattle.std.specs.Int.{◌∣◌}
 use lib.IntN.{pow}
 use Rattle.ring_laws.specs.Meaning.{Meaning, items}
@@ -12,6 +12,8 @@ use Rattle.hypergeometric.specs.Telescopes.{Telescopes}
 use Rattle.document_text.specs.Document.{Document}
 use Rattle.document_text.specs.WellFormed.{IsPolynomial, IsWellFormed}
 use Rattle.cert_text.specs.PolynomialDocument.{polynomial_document}
+use Rattle.cert_text.specs.Readable.{contents, AreReadable}
+use Rattle.cert_checker.specs.Checks.{AreInBounds}
 use Rattle.term_text.specs.declared.Monomial.{Monomial}
 use Rattle.term_text.specs.Powers.{IsRead, powers_value}
 
@@ -26,11 +28,12 @@ polynomial_value [] k = pos 0
 polynomial_value (m ∷ []) k = pow k m.power
 polynomial_value (m ∷ n ∷ ms) k = powers_value (m ∷ n ∷ ms) k
 
--- The polynomial has these values at all k. Since it is within its bounds, this says which one it is.
+-- The polynomial has these values at all k. Since it is within its bounds, this says which one it is. Its degree is at most 4.
 pub record IsTermOf (monomials : List Monomial) (poly : Meaning) (scale : ℤ) : Type 0 where
   pub bounded : IsPolynomial 1 poly
   pub values : (k : ℤ) → value_at (k ∷ []) poly ≡ polynomial_value monomials k
   pub scale_is : scale ≡ scale_of monomials
+  pub degree : length (items poly) ≤ 5
 
 -- the coefficient of k^power
 abbrev pub coefficient : Meaning → ℕ → ℤ
@@ -44,14 +47,15 @@ pub record IsLeast (poly : Meaning) (multiplier : ℤ) (y : Meaning) : Type 0 wh
   pub primitive : (d : ℕ) → d ∣ unsigned_abs multiplier → ((power : ℕ) → d ∣ unsigned_abs (coefficient y power)) → d ≡ 1
   pub no_constant : coefficient y 0 ≡ pos 0
 
--- what the engine gives for some monomials
+-- what the engine gives for some monomials; its check stays within bounds
 pub record IsAntidifferenceOf (monomials : List Monomial) (poly : Meaning) (scale multiplier : ℤ) (y : Meaning) : Type 0 where
   pub term : IsTermOf monomials poly scale
   pub bounded : IsPolynomial 1 y
   pub least : IsLeast poly multiplier y
+  pub in_bounds : AreInBounds (contents poly scale multiplier scale y)
 
 -- The document answers the text: the text spells a tree, the document is that of the tree's term with its least antidifference, it
--- is well formed, and its claim telescopes the tree's value at all whole n and k, over all finite ranges, and by its ratio.
+-- is well formed and can be read back, and its claim telescopes the tree's value at all whole n and k, over all finite ranges, and by its ratio.
 pub record IsAnswerTo (text : List ℕ) (d : Document) : Type 0 where
   pub tree : Tree
   pub monomials : List Monomial
@@ -63,4 +67,5 @@ pub record IsAnswerTo (text : List ℕ) (d : Document) : Type 0 where
   pub antidifference : IsAntidifferenceOf monomials poly scale multiplier y
   pub document : d ≡ polynomial_document poly scale multiplier scale y
   pub well_formed : IsWellFormed d
+  pub readable : AreReadable (contents poly scale multiplier scale y)
   pub telescopes : Telescopes (term_value tree) d.term.poly d.found.claim

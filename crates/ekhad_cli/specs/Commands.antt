@@ -11,6 +11,7 @@ use Rattle.cert_checker.specs.declared.verdicts.Reason.{Reason}
 use Rattle.cert_checker.specs.declared.verdicts.Reason.TheVariants.{Shape, Normal, Carrier, Zero, Poles, Equation, Case, Same, Sums}
 use Rattle.term_text.specs.PowersTree.{IsTreeOf}
 use Rattle.ekhad_cli.specs.Answer.{IsAnswerTo}
+use Rattle.ekhad_cli.specs.Refusals.{IsOutside}
 use Rattle.ekhad_cli.specs.declared.words.Command.{Command}
 use Rattle.ekhad_cli.specs.declared.words.Command.TheVariants.{Gosper, Check}
 use Rattle.ekhad_cli.specs.declared.status.Status.{Status}
@@ -86,3 +87,8 @@ IsCause command bytes Memory = Unit {0}
 IsCause command bytes ReadFault = Unit {0}
 IsCause command bytes WriteFault = Unit {0}
 IsCause command bytes refusal = ⊥
+
+-- Whatever `check` writes of the text, it accepts it; and it refuses it only where memory or the outside fail, if it reads it all.
+pub record IsAlwaysAccepted (text : List ℕ) : Type 0 where
+  pub output : (status : Status) (written : List ℕ) → IsOutput Check text status written → (status ≡ Found) × (written ≡ codes "accepted\n")
+  pub cause : length text ≤ most_bytes Check → (refusal : Refusal) → IsCause Check text refusal → IsOutside refusal

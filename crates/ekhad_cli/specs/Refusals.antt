@@ -1,5 +1,5 @@
 -- The line that each refusal says, and the status that it ends with.
-use Rattle.std.specs.Prelude.{codes, ◌⊎◌, ◌≡◌, ◌++◌, ℕ, List}
+use Rattle.std.specs.Prelude.{codes, ◌⊎◌, ◌++◌, ℕ, List}
 use Rattle.std.specs.Fmt.{decimal}
 use Rattle.std.specs.declared.option.Option.{Option}
 use Rattle.std.specs.Io.KnownBytes.{Appends}
@@ -63,6 +63,13 @@ IsInside Usage = ⊥
 IsInside ReadFault = ⊥
 IsInside WriteFault = ⊥
 IsInside _ = Unit {0}
+
+-- memory or the outside failed
+abbrev pub IsOutside : Refusal → Type 0
+IsOutside Memory = Unit {0}
+IsOutside ReadFault = Unit {0}
+IsOutside WriteFault = Unit {0}
+IsOutside _ = ⊥
 
 -- the known bytes grew by the line, or by a front of it, and then only where the fact holds
 abbrev pub GrewByLine : Option (List ℕ) → Option (List ℕ) → List ℕ → Type 0 → Type 0

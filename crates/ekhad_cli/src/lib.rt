@@ -4,12 +4,14 @@
 //! What an answer is stands in `specs/Answer.antt`, what each command writes and why it refuses in `specs/Commands.antt`, the lines of
 //! the refusals in `specs/Refusals.antt`, what a run claims of its outputs in `specs/Run.antt`.
 //! Read `words.rt` (the commands), `status.rt` and `refusal.rt` (how a run ends, and what it then says), `antidifference.rt` (the
-//! numbers of the claim), `gosper.rt` (the document of a text), `checking.rt` (the verdict on a document), `program.rt`.
+//! numbers of the claim), `gosper.rt` (the document of a text), `checking.rt` (the verdict on a document), `program.rt`; `laws.rt` has what is
+//! so of the commands together.
 #![tactic(auto)]
 
 mod antidifference;
 mod checking;
 mod gosper;
+mod laws;
 mod output;
 mod program;
 mod refusal;
@@ -18,6 +20,7 @@ mod status;
 mod tests;
 mod words;
 
+pub use laws::answers_are_accepted;
 pub use program::run;
 pub use refusal::{Refusal, RunLimit, refuse};
 pub use status::Status;

@@ -1,6 +1,5 @@
-use Rattle.std.proofs.Common.{arith, ap, sym, ◌∙◌}
+use Rattle.std.proofs.Common.{arith}
 use Rattle.std.proofs.lemmas.Grind.{common_steps}
-use Rattle.ekhad_cli.specs.Commands.{verdict_text}
 use Rattle.ekhad_cli.proofs.checking.output_of.Goals as goal
 
 -- the text of the claim and the reason

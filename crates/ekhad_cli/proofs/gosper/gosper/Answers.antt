@@ -1,5 +1,5 @@
 use Rattle.std.proofs.Common.{rules, ◌≤◌, length, ap, sym, ◌∙◌, arith, subst}
-use Rattle.std.specs.Prelude.{ℤ}
+use Rattle.std.specs.Prelude.{ℤ, unsigned_abs}
 use Rattle.ring_laws.specs.Meaning.{items}
 use Rattle.ekhad_cli.specs.Antidifference.{IsLeastAntidifference}
 use Rattle.ekhad_cli.proofs.Signed.{held}
@@ -13,12 +13,13 @@ returns-clause-answer c =
     let least = c.least_antidifference-least.result in
     let scale = c.whole.ensures ∙ held c.term_of-scale.result.1 (omega (arith, c.term_of-scale.ensures.scale_small)) in
     let multiplier = c.whole-2.ensures ∙ held least.multiplier (omega (arith, c.least_antidifference-least.ensures.few)) in
-    let short : length cs ≤ 256 = search rules in
-    let short_y : length least.coefficients ≤ 256 = search rules in
+    let short : length cs ≤ 5 = search rules in
+    let short_y : length least.coefficients ≤ 6 = search rules in
     antidifference_of c.args.monomials.now cs least.coefficients _ _ _ _ c.in_ok-poly_of.ensures.meaning c.in_ok-poly_of-2.ensures.meaning
     short short_y c.term_of-scale.ensures.small c.least_antidifference-least.ensures.small c.term_of-scale.ensures.values
     (scale ∙ c.term_of-scale.ensures.scale)
     (subst (λ (a : ℤ). IsLeastAntidifference cs a least.coefficients) (sym multiplier) c.least_antidifference-least.ensures.least)
+    (omega (arith, ap unsigned_abs multiplier, c.least_antidifference-least.ensures.few))
 
 pub returns-clause-not_zero : goal.returns-clause-not_zero
 returns-clause-not_zero c =

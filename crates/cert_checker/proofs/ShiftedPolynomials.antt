@@ -1,0 +1,77 @@
+-- The shift of a polynomial by 1 is a polynomial, and its coefficients are small where those of the polynomial are few and small.
+use Rattle.std.proofs.Common.{◌≡◌, ℕ, zero, suc, ◌+◌, ◌*◌, ◌≤◌, ◌^◌, List, [], ◌∷◌, length, map, refl, ap, ◌∙◌, arith}
+use Rattle.std.proofs.lemmas.Int.{ints}
+use Rattle.std.specs.Prelude.{ℤ, pos, ◌+ℤ◌, unsigned_abs, IsTrue}
+use Rattle.ring_laws.specs.Meaning.{Meaning, number}
+use Rattle.ring_laws.specs.Algebra.{Algebra, Passing, Closed, within}
+use Rattle.ring_laws.specs.Wholes.{whole_algebra, number_of}
+use Rattle.poly_laws.specs.Lists.{list_sum, trimmed}
+use Rattle.poly_laws.specs.PolyAlgebra.{poly_algebra}
+use Rattle.poly_laws.specs.Shift.{raised_by, list_shift, poly_shift}
+use Rattle.poly_laws.proofs.Coefficients.{meanings_of, meanings-sum, meanings-scale, meanings-trimmed, coefficients, meanings-coefficients, trimmed_passes}
+use Rattle.cert_checker.proofs.SmallCoefficients.{number_at, AreWithin, sum_at, once_at}
+
+module _ (a : Algebra) (c : Closed a) where
+  shifted_meanings : (t : Passing a) (xs : List (Passing a))
+      → meanings_of a c (list_shift (within a c) t xs) ≡ list_shift a.ops t.0 (meanings_of a c xs)
+  shifted_meanings t [] = refl
+  shifted_meanings t (x ∷ xs) =
+      let o = within a c in
+      let f = list_shift o t xs in
+      meanings-sum a c (x ∷ []) (list_sum o (map (o.product t) f) (o.nought ∷ f))
+      ∙ ap (list_sum a.ops (x.0 ∷ [])) (meanings-sum a c (map (o.product t) f) (o.nought ∷ f)
+      ∙ (λ i. list_sum a.ops (meanings-scale a c t f i) (a.ops.nought ∷ meanings_of a c f)))
+      ∙ ap (λ s. list_sum a.ops (x.0 ∷ []) (list_sum a.ops (map (a.ops.product t.0) s) (a.ops.nought ∷ s))) (shifted_meanings t xs)
+
+  -- the shift of a polynomial belongs to the polynomials
+  pub shift_passes : (w : ℤ) (x : Passing (poly_algebra a)) → IsTrue ((poly_algebra a).passes (poly_shift a.ops w x.0))
+  shift_passes w x =
+      let o = within a c in
+      trimmed_passes a c (list_shift o (o.whole w) (coefficients a c x)) _
+      (meanings-trimmed a c (list_shift o (o.whole w) (coefficients a c x))
+      ∙ ap (trimmed a.ops) (shifted_meanings (o.whole w) (coefficients a c x)
+      ∙ ap (list_shift a.ops (a.ops.whole w)) (meanings-coefficients a c x)))
+
+-- what is doubled so often
+abbrev doubled : ℕ → ℕ → ℕ
+doubled most zero = most
+doubled most (suc n) = 2 * doubled most n
+
+doubled_more : (most n m : ℕ) → n ≤ m → doubled most n ≤ doubled most m
+doubled_more most zero zero h = omega arith
+doubled_more most zero (suc m) h = omega (arith, doubled_more most zero m (omega arith))
+doubled_more most (suc n) zero h = absurd (omega (arith, h))
+doubled_more most (suc n) (suc m) h = omega (arith, doubled_more most n m (omega (arith, h)))
+
+-- one step of the shift, by the coefficients of what it starts from
+step_within : (most half : ℕ) (x : Meaning) (f : List Meaning) → unsigned_abs (number_of x) ≤ most
+    → ((k : ℕ) → unsigned_abs (number_at f k) + most ≤ half)
+    → (k : ℕ) → unsigned_abs (number_at (raised_by whole_algebra.ops (number (pos 1)) x f) k) + most ≤ 2 * half
+step_within most half x f h below k = each k (whole k) (rest k) (once_at f k)
+  where
+    row : List Meaning
+    row = list_sum whole_algebra.ops (map (whole_algebra.ops.product (number (pos 1))) f) (whole_algebra.ops.nought ∷ f)
+
+    whole : (k : ℕ) → number_at (list_sum whole_algebra.ops (x ∷ []) row) k ≡ number_at (x ∷ []) k +ℤ number_at row k
+    whole k = sum_at (x ∷ []) row k
+
+    rest : (k : ℕ) → number_at row k ≡ number_at (map (whole_algebra.ops.product (number (pos 1))) f) k +ℤ number_at (whole_algebra.ops.nought ∷ f) k
+    rest k = sum_at (map (whole_algebra.ops.product (number (pos 1))) f) (whole_algebra.ops.nought ∷ f) k
+
+    each : (k : ℕ) → number_at (list_sum whole_algebra.ops (x ∷ []) row) k ≡ number_at (x ∷ []) k +ℤ number_at row k
+        → number_at row k ≡ number_at (map (whole_algebra.ops.product (number (pos 1))) f) k +ℤ number_at (whole_algebra.ops.nought ∷ f) k
+        → number_at (map (whole_algebra.ops.product (number (pos 1))) f) k ≡ number_at f k
+        → unsigned_abs (number_at (list_sum whole_algebra.ops (x ∷ []) row) k) + most ≤ 2 * half
+    each zero whole rest same = omega (arith, ints, whole, rest, same, h, below 0)
+    each (suc k) whole rest same = omega (arith, ints, whole, rest, same, below (suc k), below k)
+
+-- each step of the shift doubles the bound at most
+shift_within : (most : ℕ) (xs : List Meaning) → AreWithin most xs
+    → (k : ℕ) → unsigned_abs (number_at (list_shift whole_algebra.ops (number (pos 1)) xs) k) + most ≤ doubled most (length xs)
+shift_within most [] h k = omega arith
+shift_within most (x ∷ xs) h k =
+    step_within most (doubled most (length xs)) x (list_shift whole_algebra.ops (number (pos 1)) xs) (h 0) (shift_within most xs (λ i. h (suc i))) k
+
+-- so of at most six coefficients, each at most 2^31, the shift has coefficients of at most 2^37
+pub few_shifted : (xs : List Meaning) → length xs ≤ 6 → AreWithin (2 ^ 31) xs → AreWithin (2 ^ 37) (list_shift whole_algebra.ops (number (pos 1)) xs)
+few_shifted xs few h k = omega (arith, shift_within (2 ^ 31) xs h k, doubled_more (2 ^ 31) (length xs) 6 few)
