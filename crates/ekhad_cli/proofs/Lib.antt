@@ -1,3 +1,6 @@
+pub mod FallingParts
+pub mod PowerShapes
+pub mod PowerSumValues
 pub mod Signed
 pub mod Sums
 pub mod Divisors

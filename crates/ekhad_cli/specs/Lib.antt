@@ -1,3 +1,4 @@
+pub mod PowerSum
 pub mod Antidifference
 pub mod Answer
 pub mod Run

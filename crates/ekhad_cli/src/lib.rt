@@ -7,6 +7,7 @@
 
 mod antidifference;
 mod gosper;
+mod power_sum;
 mod program;
 mod status;
 #[cfg(test)]
