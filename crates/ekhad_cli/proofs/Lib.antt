@@ -1,3 +1,4 @@
+pub mod Faults
 pub mod FallingParts
 pub mod PowerShapes
 pub mod PowerSumValues

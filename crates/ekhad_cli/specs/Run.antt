@@ -1,9 +1,16 @@
 -- What a run of the program claims of its outputs.
-use Rattle.std.specs.Prelude.{codes, [], ◌∷◌, ◌⊎◌, ◌≡◌, ℕ, List}
+use Rattle.std.specs.Prelude.{codes, [], ◌∷◌, ◌⊎◌, ◌≡◌, ◌≢◌, ℕ, List}
 use Rattle.std.specs.declared.option.Option.{Option}
 use Rattle.std.specs.Io.KnownBytes.{Appends}
 use Rattle.ek_io.specs.Transfer.{AppendsFront}
+use Rattle.hypergeometric.specs.Tree.{Tree}
 use Rattle.document_text.specs.Document.{Document, document_text}
+use Rattle.grammar.specs.Several.{a_term}
+use Rattle.grammar.specs.Reading.{HasTrees, Fault, literal_too_large_at, IsFirstFault}
+use Rattle.ekhad_cli.specs.declared.power_sum.Monomial.{Monomial}
+use Rattle.ekhad_cli.specs.PowerSum.{IsPowerSum}
+use Rattle.term_text.specs.declared.fault.TextFault.{TextFault}
+use Rattle.term_text.specs.declared.fault.TextFault.TheVariants as fault
 use Rattle.ekhad_cli.specs.declared.status.Status.{Status}
 use Rattle.ekhad_cli.specs.declared.status.Status.TheVariants.{Found, Empty, Usage, Syntax, Improper, TooLarge, Limit, Memory, ReadFault, WriteFault}
 use Rattle.ekhad_cli.specs.Answer.{IsAnswerTo}
@@ -21,9 +28,27 @@ abbrev pub GrewByFront : List ℕ → Option (List ℕ) → Option (List ℕ) �
 GrewByFront text before after =
     (d : Document) × IsAnswerTo text d × AppendsFront before after (document_text d)
 
+-- the text's first fault is one of its syntax, so any but a literal of 2^127 or more
+abbrev pub HasSyntaxFault : List ℕ → Type 0
+HasSyntaxFault text = (fault : Fault) × IsFirstFault a_term text fault × ((at : ℕ) → fault ≢ literal_too_large_at at)
+
+-- the text's first fault is a literal of 2^127 or more
+abbrev pub HasLargeLiteral : List ℕ → Type 0
+HasLargeLiteral text = (at : ℕ) × IsFirstFault a_term text (literal_too_large_at at)
+
+-- the text has a tree that is no sum of powers of k
+abbrev pub IsUnbuilt : List ℕ → Type 0
+IsUnbuilt text = (tree : Tree) × HasTrees a_term text (tree ∷ []) × ((ms : List Monomial) → IsPowerSum tree ms → ⊥)
+
 -- the words of the one command
 abbrev pub AreGosper : List (List ℕ) → Type 0
 AreGosper words = words ≡ codes "gosper" ∷ []
+
+-- the status of a fault of the text
+abbrev pub fault_status : TextFault → Status
+fault_status (fault.LiteralTooLarge at) = TooLarge
+fault_status fault.Memory = Memory
+fault_status _ = Syntax
 
 -- the line of a status on err
 abbrev pub fault_text : Status → List ℕ

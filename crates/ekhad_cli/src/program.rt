@@ -4,17 +4,16 @@ ghost use Rattle.std.specs.Prelude.{◌≡◌, ◌≢◌, ◌↔◌, ◌⊎◌, 
 ghost use Rattle.std.specs.Io.KnownBytes.{IsAtEnd, Keeps, Appends};
 ghost use Rattle.ek_io.specs.Faults.{Rose};
 ghost use Rattle.ek_io.specs.Transfer.{TakesBytes};
-ghost use Rattle.hypergeometric.specs.Tree.{Tree};
-ghost use Rattle.term_text.specs.PowersTree.{IsTreeOf};
-ghost use Rattle.ekhad_cli.specs.Run.{IsAnswerText, GrewByAnswer, GrewByFront, AreGosper, fault_text, GrewByLine};
+ghost use Rattle.ekhad_cli.specs.Run.{IsAnswerText, GrewByAnswer, GrewByFront, HasSyntaxFault, HasLargeLiteral, IsUnbuilt, AreGosper, fault_status, fault_text, GrewByLine};
 
 use crate::gosper::gosper;
+use crate::power_sum::monomials_of;
 use crate::status::{Status, fault_line};
 use cert_text::print_poly_doc;
 use ek_io::{ReadEnd, Sink, Source, read_all, write_all_counted};
 use ring_laws::RingFault;
 use std::alloc::Global;
-use term_text::{PowersFault, read_powers};
+use term_text::{TextFault, read_term};
 
 /// The most bytes of an input.
 const INPUT_BYTES: usize = 65_536;
@@ -35,16 +34,35 @@ fn are_gosper(words: &[String]) -> bool
     }
 }
 
+// The status of a fault of the text.
+fn fault_status(fault: TextFault) -> Status
+    ensures { result ≡ fault_status fault }
+{
+    match fault {
+        TextFault::LiteralTooLarge { .. } => Status::TooLarge,
+        TextFault::Memory => Status::Memory,
+        _ => Status::Syntax,
+    }
+}
+
 // The text of the document that answers an input.
 fn answer_text(alloc: Global, input: &[u8]) -> Result<Vec<u8>, Status>
+    requires short { length input.now ≤ 65536 }
     ensures found { IfOk result (λ text. IsAnswerText input.now text.items) }
-    ensures syntax { result ≡ Err Status.Syntax → (tree : Tree) → IsTreeOf input.now tree → ⊥ }
-    ensures causes { IfErr result (λ status. (status ≡ Status.Syntax) ⊎ (status ≡ Status.Memory)) }
+    ensures syntax { result ≡ Err Status.Syntax → HasSyntaxFault input.now }
+    ensures too_large { result ≡ Err Status.TooLarge → HasLargeLiteral input.now }
+    ensures limit { result ≡ Err Status.Limit → IsUnbuilt input.now }
+    ensures causes { IfErr result (λ status. (status ≡ Status.Syntax) ⊎ ((status ≡ Status.TooLarge) ⊎ ((status ≡ Status.Limit)
+        ⊎ (status ≡ Status.Memory)))) }
 {
-    let monomials = match read_powers(alloc, input) {
-        Ok(monomials) => monomials,
-        Err(PowersFault::Refused) => return Err(Status::Syntax),
-        Err(PowersFault::Memory) => return Err(Status::Memory),
+    let ast = match read_term(alloc, input) {
+        Ok(ast) => ast,
+        Err(fault) => return Err(fault_status(fault)),
+    };
+    let monomials = match monomials_of(alloc, &ast) {
+        Ok(Some(monomials)) => monomials,
+        Ok(None) => return Err(Status::Limit),
+        Err(_) => return Err(Status::Memory),
     };
     let doc = match gosper(alloc, &monomials) {
         Ok(doc) => doc,
@@ -66,12 +84,16 @@ fn answer<S: Source>(alloc: Global, words: &[String], input: &mut S) -> Result<V
     ensures usage { result ≡ Err Status.Usage ↔ ¬ (AreGosper (map string_bytes words.now)) }
     ensures unread { result ≡ Err Status.Usage → input.new ≡ input.old }
     ensures syntax { result ≡ Err Status.Syntax → (bytes : List ℕ) → S.left input.old ≡ Some bytes
-        → (length bytes ≤ 65536) × ((tree : Tree) → IsTreeOf bytes tree → ⊥) }
-    ensures limit { result ≡ Err Status.Limit → (bytes : List ℕ) → S.left input.old ≡ Some bytes → 65536 < length bytes }
-    ensures limit_taken { result ≡ Err Status.Limit → TakesBytes (S.left input.old) (S.left input.new) 65537 }
+        → (length bytes ≤ 65536) × HasSyntaxFault bytes }
+    ensures too_large { result ≡ Err Status.TooLarge → (bytes : List ℕ) → S.left input.old ≡ Some bytes
+        → (length bytes ≤ 65536) × HasLargeLiteral bytes }
+    ensures limit { result ≡ Err Status.Limit → (bytes : List ℕ) → S.left input.old ≡ Some bytes
+        → (65536 < length bytes) ⊎ ((length bytes ≤ 65536) × IsUnbuilt bytes) }
+    ensures limit_taken { result ≡ Err Status.Limit → TakesBytes (S.left input.old) (S.left input.new) 65537
+        ⊎ IsAtEnd (S.left input.new) }
     ensures read_fault { result ≡ Err Status.ReadFault → Rose (S.faults input.old) (S.faults input.new) }
-    ensures causes { IfErr result (λ status. (status ≡ Status.Usage) ⊎ ((status ≡ Status.Syntax) ⊎ ((status ≡ Status.Limit)
-        ⊎ ((status ≡ Status.Memory) ⊎ (status ≡ Status.ReadFault))))) }
+    ensures causes { IfErr result (λ status. (status ≡ Status.Usage) ⊎ ((status ≡ Status.Syntax) ⊎ ((status ≡ Status.TooLarge)
+        ⊎ ((status ≡ Status.Limit) ⊎ ((status ≡ Status.Memory) ⊎ (status ≡ Status.ReadFault)))))) }
 {
     if !are_gosper(words) {
         return Err(Status::Usage);
@@ -119,12 +141,16 @@ pub fn run<S: Source, O: Sink, E: Sink>(
     ensures usage { result ≡ Status.Usage ↔ ¬ (AreGosper (map string_bytes words.now)) }
     ensures unread { result ≡ Status.Usage → input.new ≡ input.old }
     ensures syntax { result ≡ Status.Syntax → (bytes : List ℕ) → S.left input.old ≡ Some bytes
-        → (length bytes ≤ 65536) × ((tree : Tree) → IsTreeOf bytes tree → ⊥) }
-    ensures limit { result ≡ Status.Limit → (bytes : List ℕ) → S.left input.old ≡ Some bytes → 65536 < length bytes }
-    ensures limit_taken { result ≡ Status.Limit → TakesBytes (S.left input.old) (S.left input.new) 65537 }
+        → (length bytes ≤ 65536) × HasSyntaxFault bytes }
+    ensures too_large { result ≡ Status.TooLarge → (bytes : List ℕ) → S.left input.old ≡ Some bytes
+        → (length bytes ≤ 65536) × HasLargeLiteral bytes }
+    ensures limit { result ≡ Status.Limit → (bytes : List ℕ) → S.left input.old ≡ Some bytes
+        → (65536 < length bytes) ⊎ ((length bytes ≤ 65536) × IsUnbuilt bytes) }
+    ensures limit_taken { result ≡ Status.Limit → TakesBytes (S.left input.old) (S.left input.new) 65537
+        ⊎ IsAtEnd (S.left input.new) }
     ensures read_fault { result ≡ Status.ReadFault → Rose (S.faults input.old) (S.faults input.new) }
     ensures write_fault { result ≡ Status.WriteFault → Rose (O.faults out.old) (O.faults out.new) }
-    ensures answers { (result ≢ Status.Empty) × (result ≢ Status.Improper) × (result ≢ Status.TooLarge) }
+    ensures answers { (result ≢ Status.Empty) × (result ≢ Status.Improper) }
 
     // `err` grew by the one line of the answer, or by a front of it where its own count of faults rose.
     ensures line { GrewByLine (E.written err.old) (E.written err.new) (fault_text result) (Rose (E.faults err.old) (E.faults err.new)) }
