@@ -1,9 +1,9 @@
 -- How far the parts of a sum are read: what is left of them, and what the rest has to be.
-use Rattle.std.proofs.Common.{◌≡◌, ◌≢◌, ℕ, ◌+◌, ◌<◌, ◌≤◌, List, [], ◌∷◌, ◌++◌, length, drop, get_or, Option, Some, refl, ap, sym, ◌∙◌, arith, subst, append_assoc, append-nil}
+use Rattle.std.proofs.Common.{◌≡◌, ℕ, ◌+◌, ◌<◌, ◌≤◌, List, [], ◌∷◌, ◌++◌, length, drop, get_or, refl, ap, sym, ◌∙◌, arith, subst, append_assoc, append-nil}
 use Rattle.std.proofs.lemmas.Grind.{common_steps}
 use Rattle.hypergeometric.specs.Tree.{part, no_parts}
 use Rattle.term_text.specs.declared.ast.Part.{Part}
-use Rattle.term_text.specs.View.{tree_of, parts_of, part_of}
+use Rattle.term_text.specs.View.{tree_of, parts_of}
 use Rattle.term_text.proofs.Views.{part_of-at}
 use Rattle.ekhad_cli.specs.declared.power_sum.Monomial.{Monomial}
 use Rattle.ekhad_cli.specs.PowerSum.{IsMonomialOf, AreFalling}

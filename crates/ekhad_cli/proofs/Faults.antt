@@ -1,11 +1,10 @@
 -- What the status of a fault says of the text.
 use Rattle.std.proofs.Common.{◌≡◌, ◌≢◌, ℕ, List}
 use Rattle.grammar.specs.Several.{a_term}
-use Rattle.grammar.specs.Reading.{Fault, unexpected_at, unknown_name_at, unclosed_at, empty_input, not_ascii_at, nesting_at, literal_too_large_at}
+use Rattle.grammar.specs.Reading.{unexpected_at, unknown_name_at, unclosed_at, empty_input, not_ascii_at, nesting_at}
 use Rattle.term_text.specs.declared.fault.TextFault.{TextFault}
 use Rattle.term_text.specs.declared.fault.TextFault.TheVariants as fault
 use Rattle.term_text.specs.Progress.{HasFault}
-use Rattle.ekhad_cli.specs.declared.status.Status.{Status}
 use Rattle.ekhad_cli.specs.declared.status.Status.TheVariants.{Syntax, TooLarge, Limit, Memory}
 use Rattle.ekhad_cli.specs.Run.{HasSyntaxFault, HasLargeLiteral, fault_status}
 

@@ -11,3 +11,4 @@ pub mod Polynomials
 pub mod Monomials
 pub mod Answering
 pub mod KnownBytes
+mod KnownPowerSums

@@ -1,5 +1,5 @@
 -- Which sums of powers the trees of the reader are, by cases on their nodes.
-use Rattle.std.proofs.Common.{◌≡◌, ◌≢◌, ℕ, zero, suc, ◌<◌, ◌≤◌, List, [], ◌∷◌, ◌++◌, length, Bool, true, false, Option, Some, None, refl, ap, sym, ◌∙◌, arith, subst}
+use Rattle.std.proofs.Common.{◌≡◌, ℕ, ◌<◌, List, [], ◌∷◌, false, Option, Some, None, refl, ap, sym, ◌∙◌, arith, subst}
 use Rattle.std.specs.Prelude.{unsigned_abs, IfSome}
 use Rattle.ring_laws.specs.declared.wholes.Whole.{Whole}
 use Rattle.hypergeometric.specs.Tree as d

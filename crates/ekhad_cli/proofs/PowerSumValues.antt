@@ -6,10 +6,10 @@ use Rattle.std.proofs.lemmas.List.Elements.{All-nil, All-cons}
 use Rattle.std.specs.Prelude.{ℤ, pos, negsuc, neg_ℤ, ◌+ℤ◌, ◌*ℤ◌, unsigned_abs, All}
 use Rattle.ring_solver.proofs.Read.{ring_z, reading_z}
 use Rattle.hypergeometric.specs.Fraction.{Fraction, of_whole, fraction_sum, fraction_product, fraction_negative}
-use Rattle.hypergeometric.specs.Tree.{Tree, tree, literal, variable_k, sum_of, product_of, power_of, Parts, part, no_parts}
+use Rattle.hypergeometric.specs.Tree.{Tree, tree, literal, variable_k, sum_of, power_of, Parts, part, no_parts}
 use Rattle.hypergeometric.specs.TreeValue.{tree_value, term_value, sum_value, product_value, signed_value}
 use Rattle.ekhad_cli.specs.declared.power_sum.Monomial.{Monomial}
-use Rattle.ekhad_cli.specs.PowerSum.{IsK, IsLiteral, IsPowerOfK, k_alone, k_raised, IsCoefficient, IsNumberTimesPower, IsScaledPower, number_alone, power_alone, number_times_power, signed_number, IsMonomialOf, AreFalling, IsPowerSum, one_power, falling_powers, powers_value, HasValueOf, IsMonomial, HasPowersBelow, ArePowers}
+use Rattle.ekhad_cli.specs.PowerSum.{IsLiteral, IsPowerOfK, k_alone, k_raised, IsNumberTimesPower, IsScaledPower, number_alone, power_alone, number_times_power, signed_number, IsMonomialOf, AreFalling, IsPowerSum, one_power, falling_powers, powers_value, HasValueOf, IsMonomial, HasPowersBelow, ArePowers}
 
 -- the powers of k, as products from the left and from the right
 square : (k : ℤ) → k *ℤ (k *ℤ pos 1) ≡ pos 1 *ℤ k *ℤ k

@@ -177,3 +177,67 @@ pub(crate) fn monomials_of(alloc: Global, ast: &Ast) -> Result<Option<Vec<Monomi
     monomials.push(monomial)?;
     Ok(Some(monomials))
 }
+
+#[cfg(test)]
+mod tests {
+    use super::*;
+    use term_text::read_term;
+
+    fn monomial(coefficient: i32, power: u32) -> Monomial {
+        Monomial { coefficient, power }
+    }
+
+    // Whether the tree of a text has these monomials, or is none of them where there are none.
+    fn answers(rt: &HostRuntime, text: &[u8], wanted: &[Monomial]) -> bool {
+        if text.len() > 65_536 {
+            return false;
+        }
+        let Ok(ast) = read_term(rt.alloc(), text) else {
+            return false;
+        };
+        match monomials_of(rt.alloc(), &ast) {
+            Ok(Some(monomials)) => monomials.as_slice() == wanted,
+            Ok(None) => wanted.is_empty(),
+            Err(_) => false,
+        }
+    }
+
+    #[test]
+    fn trees(rt: HostRuntime) {
+        let table: [(&[u8], &[Monomial]); 24] = [
+            (b"k", &[monomial(1, 1)]),
+            (b"k^2", &[monomial(1, 2)]),
+            (b" k ^ 2 ", &[monomial(1, 2)]),
+            (b"-3*k", &[monomial(-3, 1)]),
+            (b"1", &[monomial(1, 0)]),
+            (b"2*k^0", &[monomial(2, 0)]),
+            (b"k+1", &[monomial(1, 1), monomial(1, 0)]),
+            (b"(k)+1", &[monomial(1, 1), monomial(1, 0)]),
+            (b"(k+1)", &[monomial(1, 1), monomial(1, 0)]),
+            (
+                b"-k^4+02*(k)-7",
+                &[monomial(-1, 4), monomial(2, 1), monomial(-7, 0)],
+            ),
+            (
+                b"999999*k^4 + 999999*k^3",
+                &[monomial(999999, 4), monomial(999999, 3)],
+            ),
+            (b"k+k", &[]),
+            (b"k^2+k^3", &[]),
+            (b"0", &[]),
+            (b"0*k", &[]),
+            (b"k^5", &[]),
+            (b"1000000", &[]),
+            (b"k!", &[]),
+            (b"n", &[]),
+            (b"3/k", &[]),
+            (b"k*3", &[]),
+            (b"k^k", &[]),
+            (b"k+(-1)", &[]),
+            (b"2*3*k", &[]),
+        ];
+        for (text, wanted) in table {
+            assert!(rt; answers(&rt, text, wanted));
+        }
+    }
+}

@@ -120,7 +120,9 @@ fn documents_of_polynomials(rt: HostRuntime) {
     let rows = [
         ("k^2", "k^2", "1", "6", "2*k^3-3*k^2+k"),
         ("-3*k", "k", "-3", "2", "k^2-k"),
+        (" k ^ 2 ", "k^2", "1", "6", "2*k^3-3*k^2+k"),
         ("k+1", "k+1", "1", "2", "k^2+k"),
+        ("(k)+1", "k+1", "1", "2", "k^2+k"),
         ("5", "1", "5", "1", "k"),
         (
             "-k^4+2*k-7",
@@ -145,13 +147,29 @@ fn documents_of_polynomials(rt: HostRuntime) {
 
 #[test]
 fn other_texts_are_refused(rt: HostRuntime) {
-    for text in ["k+k", "k^2+k^3", "0", "1k", "k^5", "01*k", "", " "] {
+    let syntax = "ekhad: syntax\n";
+    for text in ["1k", "k+", "", " "] {
         let refused = refuses(
             &rt,
             "gosper",
             text.as_bytes(),
             Status::Syntax,
-            "ekhad: syntax\n",
+            syntax,
+            &WHOLE,
+        );
+        assert!(rt; refused, "{text}");
+    }
+    let literal = b"170141183460469231731687303715884105728";
+    let large = "ekhad: too large\n";
+    assert!(rt; refuses(&rt, "gosper", literal, Status::TooLarge, large, &WHOLE));
+    let unbuilt = "ekhad: limit: input bytes 65537\n";
+    for text in ["k!", "k+k", "k^2+k^3", "0", "0*k", "k^5"] {
+        let refused = refuses(
+            &rt,
+            "gosper",
+            text.as_bytes(),
+            Status::Limit,
+            unbuilt,
             &WHOLE,
         );
         assert!(rt; refused, "{text}");

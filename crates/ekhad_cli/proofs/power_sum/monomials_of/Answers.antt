@@ -1,11 +1,11 @@
-use Rattle.std.proofs.Common.{◌≡◌, ◌≢◌, ℕ, List, [], ◌∷◌, Option, Some, None, true, false, Result, Ok, Err, ap, sym, ◌∙◌, subst, refl, arith}
+use Rattle.std.proofs.Common.{◌≡◌, ◌≢◌, ℕ, List, [], ◌∷◌, Option, Some, None, true, false, Result, Ok, Err, ap, sym, ◌∙◌, subst, arith}
 use Rattle.std.proofs.lemmas.Grind.{common_steps}
 use Rattle.std.specs.Prelude.{IfOk, IfSome, IsNone}
 use Rattle.hypergeometric.specs.Tree.{Tree, tree, sum_of, Parts}
 use Rattle.term_text.specs.declared.ast.Part.{Part}
 use Rattle.term_text.specs.View.{tree_of, parts_of}
 use Rattle.ekhad_cli.specs.declared.power_sum.Monomial.{Monomial}
-use Rattle.ekhad_cli.specs.PowerSum.{AreFalling, IsPowerSum, one_power, falling_powers, HasValueOf, ArePowers}
+use Rattle.ekhad_cli.specs.PowerSum.{AreFalling, IsPowerSum, one_power, falling_powers}
 use Rattle.ekhad_cli.proofs.PowerShapes.{tree_sum, no_sum, none_is, sum_no_monomial}
 use Rattle.ekhad_cli.proofs.PowerSumValues.{power_sum_value, power_sum_kept}
 use Rattle.ekhad_cli.proofs.power_sum.monomials_of.Goals as goal

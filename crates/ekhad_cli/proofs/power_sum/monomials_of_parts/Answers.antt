@@ -2,7 +2,7 @@ use Rattle.std.proofs.Common.{◌≡◌, ◌+◌, ◌++◌, [], ◌∷◌, Optio
 use Rattle.std.proofs.lemmas.Grind.{common_steps}
 use Rattle.ekhad_cli.specs.declared.power_sum.Monomial.{Monomial}
 use Rattle.ekhad_cli.proofs.PowerShapes.{none_is}
-use Rattle.ekhad_cli.proofs.FallingParts.{IsLeft, left_next, none_left, left_end, ended}
+use Rattle.ekhad_cli.proofs.FallingParts.{IsLeft, left_next, none_left, left_end}
 use Rattle.ekhad_cli.proofs.power_sum.monomials_of_parts.Goals as goal
 
 some_is : (m o : Monomial) → ◌≡◌ {A = Option Monomial} (Some m) (Some o) → m ≡ o

@@ -1,6 +1,4 @@
-use Rattle.std.proofs.Common.{ℕ, ◌≡◌, ◌≤◌, ◌<◌, List, [], ◌∷◌, length, get_or, Option, Some, None, true, false, arith, refl, ap, sym, ◌∙◌, subst}
-use Rattle.std.proofs.lemmas.Grind.{common_steps}
-use Rattle.hypergeometric.specs.Tree.{tree, part, no_parts}
+use Rattle.std.proofs.Common.{ℕ, ◌≡◌, ◌≤◌, ◌<◌, List, [], ◌∷◌, length, get_or, Option, Some, None, true, false, arith, ap, sym, ◌∙◌, subst}
 use Rattle.term_text.specs.declared.ast.Part.{Part}
 use Rattle.term_text.specs.View.{tree_of, parts_of}
 use Rattle.ekhad_cli.specs.PowerSum.{IsCoefficient, IsPowerOfK, IsNumberTimesPower}

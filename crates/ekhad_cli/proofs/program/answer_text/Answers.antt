@@ -1,4 +1,4 @@
-use Rattle.std.proofs.Common.{◌≡◌, List, Result, Ok, Err, Option, None, Vec, Global, refl, sym, subst, ◌∙◌, ap}
+use Rattle.std.proofs.Common.{◌≡◌, Result, Err, Option, None, Vec, Global, refl, sym, subst, ◌∙◌}
 use Rattle.std.specs.Prelude.{IsNone}
 use Rattle.term_text.specs.View.{tree_of}
 use Rattle.ekhad_cli.specs.declared.status.Status.{Status}
