@@ -14,7 +14,7 @@ use Rattle.cert_checker.proofs.RightDocuments.{equation_of_identity}
 use Rattle.ekhad_cli.specs.declared.words.Command.TheVariants.{Check}
 use Rattle.ekhad_cli.specs.declared.status.Status.TheVariants.{Found}
 use Rattle.ekhad_cli.specs.declared.refusal.Refusal.{Refusal}
-use Rattle.ekhad_cli.specs.declared.refusal.Refusal.TheVariants.{Usage, Syntax, Line, ClaimTooLarge, Memory, ReadFault, WriteFault}
+use Rattle.ekhad_cli.specs.declared.refusal.Refusal.TheVariants.{Usage, EmptyInput, Line, LiteralTooLarge, ClaimTooLarge, Unbuilt, Memory, ReadFault, WriteFault}
 use Rattle.ekhad_cli.specs.declared.refusal.Refusal.TheVariants as refusal
 use Rattle.ekhad_cli.specs.Refusals.{IsOutside}
 use Rattle.ekhad_cli.specs.Commands.{most_bytes, IsAnswerText, verdict_text, verdict_status, IsCause, IsAlwaysAccepted}
@@ -67,10 +67,13 @@ same_document {text} d e r read = subst (IsRight text) (one_document text d e r.
 
 outside : {text : List ℕ} (d : Contents) → IsRight text d → length text ≤ most_bytes Check → (refusal : Refusal) → IsCause Check text refusal → IsOutside refusal
 outside d r few Usage cause = cause
-outside d r few Syntax cause = cause
+outside d r few EmptyInput cause = cause
+outside d r few (refusal.Syntax kind at) cause = cause
 outside d r few (Line at) cause = absurd (cause.2.refused d r.read)
+outside d r few (LiteralTooLarge at) cause = cause
 outside d r few (ClaimTooLarge claim) (short, is, e, read, carrier, multiplier, large) = absurd (large (same_document d e r read).in_bounds)
 outside d r few (refusal.Limit limit counted) cause = absurd (omega (arith, few, cause.1))
+outside d r few Unbuilt cause = cause
 outside d r few Memory cause = tt
 outside d r few ReadFault cause = tt
 outside d r few WriteFault cause = tt

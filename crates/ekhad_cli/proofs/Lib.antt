@@ -1,3 +1,6 @@
+pub mod FallingParts
+pub mod PowerShapes
+pub mod PowerSumValues
 pub mod Signed
 pub mod Sums
 pub mod Divisors
@@ -5,6 +8,7 @@ pub mod Quotients
 pub mod Antidifferences
 pub mod Polynomials
 pub mod Monomials
-pub mod Answering
+pub mod AnsweredTerms
 pub mod Outcomes
 pub mod Accepted
+mod KnownPowerSums

@@ -6,8 +6,8 @@ use Rattle.std.proofs.lemmas.List.Elements.{All-set, All-weaker}
 use Rattle.std.proofs.lemmas.Int.{ints}
 use Rattle.std.specs.Prelude.{ℤ, pos, ◌+ℤ◌, ◌*ℤ◌, unsigned_abs, All}
 use Rattle.ring_solver.proofs.Read.{ring_z, reading_z}
-use Rattle.term_text.specs.declared.Monomial.{Monomial}
-use Rattle.term_text.specs.Powers.{powers_value, HasPowersBelow, ArePowers}
+use Rattle.ekhad_cli.specs.declared.power_sum.Monomial.{Monomial}
+use Rattle.ekhad_cli.specs.PowerSum.{powers_value, HasPowersBelow, ArePowers}
 use Rattle.ekhad_cli.specs.Antidifference.{value_of}
 
 step : (c k v r p : ℤ) → c +ℤ k *ℤ (r +ℤ v *ℤ p) ≡ c +ℤ k *ℤ r +ℤ v *ℤ (p *ℤ k)

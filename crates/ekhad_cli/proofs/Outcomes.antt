@@ -12,6 +12,11 @@ use Rattle.ekhad_cli.specs.Refusals.{status_of, IsFixed}
 use Rattle.ekhad_cli.specs.Commands.{AreWordsOf, most_bytes, IsOutput}
 use Rattle.ekhad_cli.specs.Run.{IsCaused, GrewByOutput, GrewByFront}
 
+-- what is said of something where it is there
+pub at_known : {T : Type 0} (P : T → Type 0) (told : Option T) (x : T) → told ≡ Some x → IfSome told P → P x
+at_known P None x e h = cc
+at_known P (Some y) x e h = let same : y ≡ x = cc in subst P same h
+
 -- what holds of bytes where they are told gives what holds of them
 pub if_told : {P Q : List ℕ → Type 0} (held : Option (List ℕ)) → ((bytes : List ℕ) → P bytes → Q bytes) → IfSome held P → IfSome held Q
 if_told None f p = p

@@ -14,8 +14,10 @@ use Rattle.document_text.specs.WellFormed.{IsPolynomial, IsWellFormed}
 use Rattle.cert_text.specs.PolynomialDocument.{polynomial_document}
 use Rattle.cert_text.specs.Readable.{contents, AreReadable}
 use Rattle.cert_checker.specs.Checks.{AreInBounds}
-use Rattle.term_text.specs.declared.Monomial.{Monomial}
-use Rattle.term_text.specs.Powers.{IsRead, powers_value}
+use Rattle.grammar.specs.Several.{a_term}
+use Rattle.grammar.specs.Reading.{HasTrees}
+use Rattle.ekhad_cli.specs.declared.power_sum.Monomial.{Monomial}
+use Rattle.ekhad_cli.specs.PowerSum.{IsPowerSum, powers_value}
 
 -- The term of a text: one monomial is a scale and a power of k, and a sum of several is a polynomial with the scale 1.
 abbrev pub scale_of : List Monomial → ℤ
@@ -54,12 +56,14 @@ pub record IsAntidifferenceOf (monomials : List Monomial) (poly : Meaning) (scal
   pub least : IsLeast poly multiplier y
   pub in_bounds : AreInBounds (contents poly scale multiplier scale y)
 
--- The document answers the text: the text spells a tree, the document is that of the tree's term with its least antidifference, it
--- is well formed and can be read back, and its claim telescopes the tree's value at all whole n and k, over all finite ranges, and by its ratio.
+-- The document answers the text: the text has a tree by the grammar, which is a sum of powers of k, the document is that of its term
+-- with the least antidifference, it is well formed and can be read back, and its claim telescopes the tree's value at all whole n and
+-- k, over all finite ranges, and by its ratio.
 pub record IsAnswerTo (text : List ℕ) (d : Document) : Type 0 where
   pub tree : Tree
+  pub read : HasTrees a_term text (tree ∷ [])
   pub monomials : List Monomial
-  pub read : IsRead text tree monomials
+  pub power_sum : IsPowerSum tree monomials
   pub poly : Meaning
   pub y : Meaning
   pub scale : ℤ

@@ -9,7 +9,10 @@ use Rattle.cert_checker.specs.declared.verdicts.Verdict.{Verdict}
 use Rattle.cert_checker.specs.declared.verdicts.Verdict.TheVariants.{Accepted, Rejected}
 use Rattle.cert_checker.specs.declared.verdicts.Reason.{Reason}
 use Rattle.cert_checker.specs.declared.verdicts.Reason.TheVariants.{Shape, Normal, Carrier, Zero, Poles, Equation, Case, Same, Sums}
-use Rattle.term_text.specs.PowersTree.{IsTreeOf}
+use Rattle.grammar.specs.Several.{a_term}
+use Rattle.grammar.specs.Reading.{HasTrees, IsFirstFault, Fault, unexpected_at, unknown_name_at, unclosed_at, empty_input, not_ascii_at, nesting_at, literal_too_large_at}
+use Rattle.ekhad_cli.specs.declared.power_sum.Monomial.{Monomial}
+use Rattle.ekhad_cli.specs.PowerSum.{IsPowerSum}
 use Rattle.ekhad_cli.specs.Answer.{IsAnswerTo}
 use Rattle.ekhad_cli.specs.Refusals.{IsOutside}
 use Rattle.ekhad_cli.specs.declared.words.Command.{Command}
@@ -18,8 +21,10 @@ use Rattle.ekhad_cli.specs.declared.status.Status.{Status}
 use Rattle.ekhad_cli.specs.declared.status.Status.TheVariants.{Found, Empty}
 use Rattle.ekhad_cli.specs.declared.refusal.RunLimit.{RunLimit}
 use Rattle.ekhad_cli.specs.declared.refusal.RunLimit.TheVariants.{InputBytes, DocumentBytes}
+use Rattle.ekhad_cli.specs.declared.refusal.SyntaxKind.{SyntaxKind}
+use Rattle.ekhad_cli.specs.declared.refusal.SyntaxKind.TheVariants.{Unexpected, UnknownName, Unclosed, NotAscii, Nesting}
 use Rattle.ekhad_cli.specs.declared.refusal.Refusal.{Refusal}
-use Rattle.ekhad_cli.specs.declared.refusal.Refusal.TheVariants.{Usage, Syntax, Line, ClaimTooLarge, Memory, ReadFault, WriteFault}
+use Rattle.ekhad_cli.specs.declared.refusal.Refusal.TheVariants.{Usage, EmptyInput, Line, LiteralTooLarge, ClaimTooLarge, Unbuilt, Memory, ReadFault, WriteFault}
 use Rattle.ekhad_cli.specs.declared.refusal.Refusal.TheVariants as refusal
 
 -- the words of a command
@@ -74,12 +79,26 @@ abbrev pub IsOutput : Command → List ℕ → Status → List ℕ → Type 0
 IsOutput Gosper bytes status text = (status ≡ Found) × IsAnswerText bytes text
 IsOutput Check bytes status text = IsVerdictText bytes status text
 
+abbrev pub fault_of : SyntaxKind → ℕ → Fault
+fault_of Unexpected at = unexpected_at at
+fault_of UnknownName at = unknown_name_at at
+fault_of Unclosed at = unclosed_at at
+fault_of NotAscii at = not_ascii_at at
+fault_of Nesting at = nesting_at at
+
+-- the text of a term has a tree that is no sum of powers of k
+abbrev pub IsUnbuilt : List ℕ → Type 0
+IsUnbuilt text = (tree : Tree) × HasTrees a_term text (tree ∷ []) × ((monomials : List Monomial) → ¬ IsPowerSum tree monomials)
+
 -- Why a command refuses the bytes that it reads: they are too many, or it read them all. A fault of the outside, or want of memory,
 -- may come whatever they are.
 abbrev pub IsCause : Command → List ℕ → Refusal → Type 0
 IsCause command bytes (refusal.Limit limit counted) =
     (limit ≡ byte_limit command) × (most_bytes command < length bytes) × (counted ≡ suc (most_bytes command))
-IsCause Gosper bytes Syntax = (length bytes ≤ most_bytes Gosper) × ((tree : Tree) → ¬ IsTreeOf bytes tree)
+IsCause Gosper bytes EmptyInput = (length bytes ≤ most_bytes Gosper) × IsFirstFault a_term bytes empty_input
+IsCause Gosper bytes (refusal.Syntax kind at) = (length bytes ≤ most_bytes Gosper) × IsFirstFault a_term bytes (fault_of kind at)
+IsCause Gosper bytes (LiteralTooLarge at) = (length bytes ≤ most_bytes Gosper) × IsFirstFault a_term bytes (literal_too_large_at at)
+IsCause Gosper bytes Unbuilt = (length bytes ≤ most_bytes Gosper) × IsUnbuilt bytes
 IsCause Check bytes (Line at) = (length bytes ≤ most_bytes Check) × (line : ℕ) × IsFirstBadLine bytes line × (at ≡ carried line)
 IsCause Check bytes (ClaimTooLarge claim) = (length bytes ≤ most_bytes Check) × (claim ≡ 0)
     × (d : Contents) × IsTextOf bytes d × HasCarrier d × HasMultiplier d × (¬ AreInBounds d)

@@ -1,5 +1,6 @@
-pub mod Answer
+pub mod PowerSum
 pub mod Antidifference
+pub mod Answer
 pub mod Commands
 pub mod Refusals
 pub mod Run

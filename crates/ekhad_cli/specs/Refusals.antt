@@ -8,8 +8,10 @@ use Rattle.ekhad_cli.specs.declared.status.Status.{Status}
 use Rattle.ekhad_cli.specs.declared.status.Status.TheVariants as status
 use Rattle.ekhad_cli.specs.declared.refusal.RunLimit.{RunLimit}
 use Rattle.ekhad_cli.specs.declared.refusal.RunLimit.TheVariants.{InputBytes, DocumentBytes}
+use Rattle.ekhad_cli.specs.declared.refusal.SyntaxKind.{SyntaxKind}
+use Rattle.ekhad_cli.specs.declared.refusal.SyntaxKind.TheVariants.{Unexpected, UnknownName, Unclosed, NotAscii, Nesting}
 use Rattle.ekhad_cli.specs.declared.refusal.Refusal.{Refusal}
-use Rattle.ekhad_cli.specs.declared.refusal.Refusal.TheVariants.{Usage, Syntax, Line, ClaimTooLarge, Memory, ReadFault, WriteFault}
+use Rattle.ekhad_cli.specs.declared.refusal.Refusal.TheVariants.{Usage, EmptyInput, Line, LiteralTooLarge, ClaimTooLarge, Unbuilt, Memory, ReadFault, WriteFault}
 use Rattle.ekhad_cli.specs.declared.refusal.Refusal.TheVariants as refusal
 
 -- the exit status
@@ -27,10 +29,13 @@ code_of status.WriteFault = 9
 
 abbrev pub status_of : Refusal → Status
 status_of Usage = status.Usage
-status_of Syntax = status.Syntax
+status_of EmptyInput = status.Syntax
+status_of (refusal.Syntax kind at) = status.Syntax
 status_of (Line at) = status.Syntax
+status_of (LiteralTooLarge at) = status.TooLarge
 status_of (ClaimTooLarge claim) = status.TooLarge
 status_of (refusal.Limit limit counted) = status.Limit
+status_of Unbuilt = status.Limit
 status_of Memory = status.Memory
 status_of ReadFault = status.ReadFault
 status_of WriteFault = status.WriteFault
@@ -39,20 +44,32 @@ abbrev pub limit_name : RunLimit → List ℕ
 limit_name InputBytes = codes "input bytes"
 limit_name DocumentBytes = codes "document bytes"
 
+abbrev pub kind_name : SyntaxKind → List ℕ
+kind_name Unexpected = codes "unexpected"
+kind_name UnknownName = codes "unknown name"
+kind_name Unclosed = codes "unclosed"
+kind_name NotAscii = codes "not ascii"
+kind_name Nesting = codes "nesting"
+
 -- the one line on err
 abbrev pub line_text : Refusal → List ℕ
 line_text Usage = codes "ekhad: usage\n"
-line_text Syntax = codes "ekhad: syntax\n"
+line_text EmptyInput = codes "ekhad: syntax: empty input\n"
+line_text (refusal.Syntax kind at) = codes "ekhad: syntax: " ++ kind_name kind ++ codes " at " ++ decimal at ++ codes "\n"
 line_text (Line at) = codes "ekhad: syntax: line " ++ decimal at ++ codes "\n"
+line_text (LiteralTooLarge at) = codes "ekhad: too large: literal at " ++ decimal at ++ codes "\n"
 line_text (ClaimTooLarge claim) = codes "ekhad: too large: claim " ++ decimal claim ++ codes "\n"
 line_text (refusal.Limit limit counted) = codes "ekhad: limit: " ++ limit_name limit ++ codes " " ++ decimal counted ++ codes "\n"
+line_text Unbuilt = codes "ekhad: limit: unbuilt 1\n"
 line_text Memory = codes "ekhad: memory\n"
 line_text ReadFault = codes "ekhad: read fault\n"
 line_text WriteFault = codes "ekhad: write fault\n"
 
 -- the refusals whose line has no number
 abbrev pub IsFixed : Refusal → Type 0
+IsFixed (refusal.Syntax kind at) = ⊥
 IsFixed (Line at) = ⊥
+IsFixed (LiteralTooLarge at) = ⊥
 IsFixed (ClaimTooLarge claim) = ⊥
 IsFixed (refusal.Limit limit counted) = ⊥
 IsFixed _ = Unit {0}

@@ -5,16 +5,16 @@ ghost use Rattle.ring_laws.specs.Meaning.{number, listed, items};
 ghost use Rattle.ring_laws.specs.Wholes.{whole_algebra};
 ghost use Rattle.poly_laws.specs.Lists.{trimmed};
 ghost use Rattle.ring_laws.specs.declared.faults.RingFault.{RingFault};
-ghost use Rattle.term_text.specs.Powers.{ArePowers, powers_value};
+ghost use Rattle.ekhad_cli.specs.PowerSum.{ArePowers, powers_value};
 ghost use Rattle.ekhad_cli.specs.Antidifference.{value_of};
 ghost use Rattle.ekhad_cli.specs.Answer.{scale_of, polynomial_value, IsAntidifferenceOf};
 
 use crate::antidifference::least_antidifference;
+use crate::power_sum::Monomial;
 use cert_text::PolyDoc;
 use poly_generic::{Poly, Zn};
 use ring_laws::{Ring, RingFault, Whole};
 use std::alloc::Global;
-use term_text::Monomial;
 
 // A number of 64 bits.
 fn whole(value: i64) -> Whole

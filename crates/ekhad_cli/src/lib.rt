@@ -3,16 +3,18 @@
 //! Input: the words after the program's name, a source, two sinks. Output: a `Status`, by `run`.
 //! What an answer is stands in `specs/Answer.antt`, what each command writes and why it refuses in `specs/Commands.antt`, the lines of
 //! the refusals in `specs/Refusals.antt`, what a run claims of its outputs in `specs/Run.antt`.
-//! Read `words.rt` (the commands), `status.rt` and `refusal.rt` (how a run ends, and what it then says), `antidifference.rt` (the
-//! numbers of the claim), `gosper.rt` (the document of a text), `checking.rt` (the verdict on a document), `program.rt`; `laws.rt` has what is
-//! so of the commands together.
+//! Read `words.rt` (the commands), `status.rt` and `refusal.rt` (how a run ends, and what it then says), `power_sum.rt` (the
+//! monomials of a term), `antidifference.rt` (the numbers of the claim), `gosper.rt` (its document), `answering.rt` (from a text to the
+//! text of its document), `checking.rt` (the verdict on a document), `program.rt`; `laws.rt` has what is so of the commands together.
 #![tactic(auto)]
 
+mod answering;
 mod antidifference;
 mod checking;
 mod gosper;
 mod laws;
 mod output;
+mod power_sum;
 mod program;
 mod refusal;
 mod status;
@@ -22,6 +24,6 @@ mod words;
 
 pub use laws::answers_are_accepted;
 pub use program::run;
-pub use refusal::{Refusal, RunLimit, refuse};
+pub use refusal::{Refusal, RunLimit, SyntaxKind, refuse};
 pub use status::Status;
 pub use words::Command;

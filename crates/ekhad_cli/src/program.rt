@@ -4,46 +4,18 @@ ghost use Rattle.std.specs.Prelude.{◌≡◌, ◌≢◌, ◌↔◌, ◌≤◌, 
 ghost use Rattle.std.specs.Io.KnownBytes.{IsAtEnd, Keeps};
 ghost use Rattle.ek_io.specs.Faults.{Rose};
 ghost use Rattle.ek_io.specs.Transfer.{TakesBytes};
-ghost use Rattle.ekhad_cli.specs.Refusals.{line_text, status_of, IsInside, GrewByLine};
-ghost use Rattle.ekhad_cli.specs.Commands.{AreWordsOf, most_bytes, byte_limit, IsAnswerText, IsOutput, IsCause};
+ghost use Rattle.ekhad_cli.specs.Refusals.{line_text, status_of, GrewByLine};
+ghost use Rattle.ekhad_cli.specs.Commands.{AreWordsOf, most_bytes, byte_limit, IsOutput, IsCause};
 ghost use Rattle.ekhad_cli.specs.Run.{IsAnswered, GrewByOutput, GrewByFront, IsCaused, TakesTooMany};
 
+use crate::answering::answer_term;
 use crate::checking::check;
-use crate::gosper::gosper;
 use crate::output::Output;
 use crate::refusal::{Refusal, RunLimit, refuse};
 use crate::status::Status;
 use crate::words::{Command, command_of};
-use cert_text::print_poly_doc;
 use ek_io::{ReadEnd, Sink, Source, read_all, write_all_counted};
-use ring_laws::RingFault;
 use std::alloc::Global;
-use term_text::{PowersFault, read_powers};
-
-// The document that answers a term, which is read as a text.
-fn answer_term(alloc: Global, input: &[u8]) -> Result<Output, Refusal>
-    ensures output { IfOk result (λ output. (output.status ≡ Status.Found) × IsAnswerText input.now output.text.items) }
-    ensures cause { length input.now ≤ most_bytes Command.Gosper → IfErr result (λ refusal. IsCause Command.Gosper input.now refusal) }
-    ensures inside { IfErr result IsInside }
-{
-    let monomials = match read_powers(alloc, input) {
-        Ok(monomials) => monomials,
-        Err(PowersFault::Refused) => return Err(Refusal::Syntax),
-        Err(PowersFault::Memory) => return Err(Refusal::Memory),
-    };
-    let doc = match gosper(alloc, &monomials) {
-        Ok(doc) => doc,
-        Err(RingFault::TooLarge) => unreachable!(),
-        Err(RingFault::Memory) => return Err(Refusal::Memory),
-    };
-    match print_poly_doc(alloc, &doc) {
-        Ok(text) => Ok(Output {
-            text,
-            status: Status::Found,
-        }),
-        Err(_) => Err(Refusal::Memory),
-    }
-}
 
 // The most bytes that a command reads.
 fn most_bytes_of(command: Command) -> usize
@@ -98,8 +70,8 @@ fn answer<S: Source>(alloc: Global, words: &[String], input: &mut S) -> Result<O
     ensures cause { IfErr result (IsCaused (map string_bytes words.now) (S.left input.old)) }
     ensures usage { result ≡ Err Refusal.Usage ↔ ((command : Command) → ¬ AreWordsOf command (map string_bytes words.now)) }
     ensures unread { result ≡ Err Refusal.Usage → input.new ≡ input.old }
-    ensures limit_taken { (limit : RunLimit) (counted : ℕ) → result ≡ Err (Refusal.Limit limit counted)
-        → TakesTooMany (map string_bytes words.now) (S.left input.old) (S.left input.new) }
+    ensures limit_taken { IfErr result (λ refusal. status_of refusal ≡ Status.Limit
+        → TakesTooMany (map string_bytes words.now) (S.left input.old) (S.left input.new)) }
     ensures read_fault { result ≡ Err Refusal.ReadFault → Rose (S.faults input.old) (S.faults input.new) }
     ensures write_fault { result ≢ Err Refusal.WriteFault }
 {

@@ -3,7 +3,7 @@
 ghost use Rattle.std.specs.Prelude.{◌≡◌, ◌⊎◌, IfOk, IsOk};
 ghost use Rattle.std.specs.Cow.{cow_str_bytes};
 ghost use Rattle.ek_io.specs.Faults.{Rose};
-ghost use Rattle.ekhad_cli.specs.Refusals.{limit_name, line_text, status_of, IsFixed, GrewByLine};
+ghost use Rattle.ekhad_cli.specs.Refusals.{limit_name, kind_name, line_text, status_of, IsFixed, GrewByLine};
 
 use crate::status::Status;
 use ek_io::{Sink, write_all_counted};
@@ -19,19 +19,40 @@ pub enum RunLimit {
     DocumentBytes,
 }
 
-/// Why a run gives no answer.
+/// What is wrong where a text of a term goes wrong.
+#[derive(Clone, Copy, Debug, PartialEq, Eq, Drop)]
+pub enum SyntaxKind {
+    /// No text of the grammar goes on so.
+    Unexpected,
+    /// A name that is none of the grammar's.
+    UnknownName,
+    /// The end of the text, where this parenthesis is open.
+    Unclosed,
+    /// A byte of 128 or more.
+    NotAscii,
+    /// The 65th open parenthesis.
+    Nesting,
+}
+
+/// Why a run gives no answer. Places of a text are those of its bytes, counted from 0.
 #[derive(Clone, Copy, Debug, PartialEq, Eq, Drop)]
 pub enum Refusal {
     /// The words are none of the program's.
     Usage,
-    /// The input is no term that is read.
-    Syntax,
+    /// The text of a term has no token.
+    EmptyInput,
+    /// The first fault of the text of a term.
+    Syntax { kind: SyntaxKind, at: u32 },
     /// The first line of the input, counted from 1, that no document has there after the lines before it.
     Line { at: u32 },
+    /// The first fault of the text of a term is a number of 2^127 or more.
+    LiteralTooLarge { at: u32 },
     /// The arithmetic of the check of a claim, counted from 0, is out of bounds.
     ClaimTooLarge { claim: u32 },
     /// A limit is passed, with what was counted.
     Limit { limit: RunLimit, counted: u64 },
+    /// The term is one that no command answers yet.
+    Unbuilt,
     /// Memory was refused.
     Memory,
     /// The input could not be read.
@@ -47,9 +68,9 @@ impl Refusal {
     {
         match self {
             Refusal::Usage => Status::Usage,
-            Refusal::Syntax | Refusal::Line { .. } => Status::Syntax,
-            Refusal::ClaimTooLarge { .. } => Status::TooLarge,
-            Refusal::Limit { .. } => Status::Limit,
+            Refusal::EmptyInput | Refusal::Syntax { .. } | Refusal::Line { .. } => Status::Syntax,
+            Refusal::LiteralTooLarge { .. } | Refusal::ClaimTooLarge { .. } => Status::TooLarge,
+            Refusal::Limit { .. } | Refusal::Unbuilt => Status::Limit,
             Refusal::Memory => Status::Memory,
             Refusal::ReadFault => Status::ReadFault,
             Refusal::WriteFault => Status::WriteFault,
@@ -58,12 +79,25 @@ impl Refusal {
 }
 
 // The name of a limit, as it is said.
-fn name_of(limit: RunLimit) -> &'static str
+fn name_of_limit(limit: RunLimit) -> &'static str
     ensures name { result.now ≡ limit_name limit }
 {
     match limit {
         RunLimit::InputBytes => "input bytes",
         RunLimit::DocumentBytes => "document bytes",
+    }
+}
+
+// The name of a kind, as it is said.
+fn name_of_kind(kind: SyntaxKind) -> &'static str
+    ensures name { result.now ≡ kind_name kind }
+{
+    match kind {
+        SyntaxKind::Unexpected => "unexpected",
+        SyntaxKind::UnknownName => "unknown name",
+        SyntaxKind::Unclosed => "unclosed",
+        SyntaxKind::NotAscii => "not ascii",
+        SyntaxKind::Nesting => "nesting",
     }
 }
 
@@ -74,15 +108,23 @@ fn line_of(alloc: Global, refusal: Refusal) -> Result<CowStr<'static>, AllocErro
 {
     Ok(match refusal {
         Refusal::Usage => CowStr::Borrowed("ekhad: usage\n"),
-        Refusal::Syntax => CowStr::Borrowed("ekhad: syntax\n"),
+        Refusal::EmptyInput => CowStr::Borrowed("ekhad: syntax: empty input\n"),
+        Refusal::Syntax { kind, at } => {
+            let name = name_of_kind(kind);
+            CowStr::Owned(format!(in alloc; "ekhad: syntax: {name} at {at}\n")?)
+        }
         Refusal::Line { at } => CowStr::Owned(format!(in alloc; "ekhad: syntax: line {at}\n")?),
+        Refusal::LiteralTooLarge { at } => {
+            CowStr::Owned(format!(in alloc; "ekhad: too large: literal at {at}\n")?)
+        }
         Refusal::ClaimTooLarge { claim } => {
             CowStr::Owned(format!(in alloc; "ekhad: too large: claim {claim}\n")?)
         }
         Refusal::Limit { limit, counted } => {
-            let name = name_of(limit);
+            let name = name_of_limit(limit);
             CowStr::Owned(format!(in alloc; "ekhad: limit: {name} {counted}\n")?)
         }
+        Refusal::Unbuilt => CowStr::Borrowed("ekhad: limit: unbuilt 1\n"),
         Refusal::Memory => CowStr::Borrowed("ekhad: memory\n"),
         Refusal::ReadFault => CowStr::Borrowed("ekhad: read fault\n"),
         Refusal::WriteFault => CowStr::Borrowed("ekhad: write fault\n"),

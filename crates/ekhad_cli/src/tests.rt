@@ -121,7 +121,9 @@ fn documents_of_polynomials(rt: HostRuntime) {
     let rows = [
         ("k^2", "k^2", "1", "6", "2*k^3-3*k^2+k"),
         ("-3*k", "k", "-3", "2", "k^2-k"),
+        (" k ^ 2 ", "k^2", "1", "6", "2*k^3-3*k^2+k"),
         ("k+1", "k+1", "1", "2", "k^2+k"),
+        ("(k)+1", "k+1", "1", "2", "k^2+k"),
         ("5", "1", "5", "1", "k"),
         (
             "-k^4+2*k-7",
@@ -146,15 +148,36 @@ fn documents_of_polynomials(rt: HostRuntime) {
 
 #[test]
 fn other_texts_are_refused(rt: HostRuntime) {
-    for text in ["k+k", "k^2+k^3", "0", "1k", "k^5", "01*k", "", " "] {
-        let refused = refuses(
-            &rt,
-            "gosper",
-            text.as_bytes(),
+    let rows = [
+        ("", Status::Syntax, "ekhad: syntax: empty input\n"),
+        ("1k", Status::Syntax, "ekhad: syntax: unexpected at 1\n"),
+        ("2*x", Status::Syntax, "ekhad: syntax: unknown name at 2\n"),
+        (
+            "binomial(n,k",
             Status::Syntax,
-            "ekhad: syntax\n",
-            &WHOLE,
-        );
+            "ekhad: syntax: unclosed at 8\n",
+        ),
+        (
+            "k \u{e9}",
+            Status::Syntax,
+            "ekhad: syntax: not ascii at 2\n",
+        ),
+        (
+            "(((((((((((((((((((((((((((((((((((((((((((((((((((((((((((((((((",
+            Status::Syntax,
+            "ekhad: syntax: nesting at 64\n",
+        ),
+        (
+            "170141183460469231731687303715884105728",
+            Status::TooLarge,
+            "ekhad: too large: literal at 0\n",
+        ),
+        ("k!", Status::Limit, "ekhad: limit: unbuilt 1\n"),
+        ("k+k", Status::Limit, "ekhad: limit: unbuilt 1\n"),
+        ("0", Status::Limit, "ekhad: limit: unbuilt 1\n"),
+    ];
+    for (text, status, line) in rows {
+        let refused = refuses(&rt, "gosper", text.as_bytes(), status, line, &WHOLE);
         assert!(rt; refused, "{text}");
     }
     assert!(rt; refuses(&rt, "zeil", b"k", Status::Usage, "ekhad: usage\n", &WHOLE));
@@ -287,7 +310,7 @@ fn the_most_bytes_of_an_input(rt: HostRuntime) -> Result<(), AllocError> {
             "gosper",
             &text,
             Status::Syntax,
-            "ekhad: syntax\n",
+            "ekhad: syntax: unknown name at 0\n",
             &WHOLE
         )
     );

@@ -1,6 +1,6 @@
 use Rattle.std.proofs.Common.{◌≡◌, ◌*◌, ◌≤◌, length, take, get_or}
 use Rattle.std.specs.Prelude.{ℤ, pos, All, unsigned_abs}
-use Rattle.term_text.specs.Powers.{powers_value}
+use Rattle.ekhad_cli.specs.PowerSum.{powers_value}
 use Rattle.ekhad_cli.specs.Antidifference.{value_of}
 use Rattle.ekhad_cli.proofs.Monomials.{first_of, lead_after}
 use Rattle.ekhad_cli.proofs.gosper.coefficients_of.Given as goal

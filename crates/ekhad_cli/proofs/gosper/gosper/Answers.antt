@@ -3,7 +3,7 @@ use Rattle.std.specs.Prelude.{ℤ, unsigned_abs}
 use Rattle.ring_laws.specs.Meaning.{items}
 use Rattle.ekhad_cli.specs.Antidifference.{IsLeastAntidifference}
 use Rattle.ekhad_cli.proofs.Signed.{held}
-use Rattle.ekhad_cli.proofs.Answering.{some_item, antidifference_of}
+use Rattle.ekhad_cli.proofs.AnsweredTerms.{some_item, antidifference_of}
 use Rattle.ekhad_cli.proofs.gosper.gosper.Goals as goal
 
 -- the numbers that were found, as polynomials and numbers of the document

@@ -20,8 +20,10 @@ use Rattle.cert_text.specs.Readable.{contents}
 use Rattle.cert_checker.specs.Checks.{AreInBounds}
 use Rattle.cert_checker.proofs.RightDocuments.{small_in_bounds}
 use Rattle.cert_text.proofs.PolynomialClaims.{polynomial_document_well_formed, polynomial_document_telescopes}
-use Rattle.term_text.specs.declared.Monomial.{Monomial}
-use Rattle.term_text.specs.Powers.{IsRead, HasValueOf, powers_value}
+use Rattle.grammar.specs.Several.{a_term}
+use Rattle.grammar.specs.Reading.{HasTrees}
+use Rattle.ekhad_cli.specs.declared.power_sum.Monomial.{Monomial}
+use Rattle.ekhad_cli.specs.PowerSum.{IsPowerSum, HasValueOf, powers_value}
 use Rattle.ekhad_cli.specs.Antidifference.{value_of, DividesAll, IsLeastAntidifference}
 use Rattle.ekhad_cli.specs.Answer.{scale_of, polynomial_value, coefficient, IsLeast, IsAntidifferenceOf}
 use Rattle.ekhad_cli.specs.Commands.{IsAnswerText}
@@ -78,9 +80,9 @@ scaled_value (m ∷ n ∷ ms) k = ring_z (powers_value (m ∷ n ∷ ms) k ∷ []
 
 -- what was read and found answers the text
 pub answered : {poly y : Meaning} {scale a carrier : ℤ} (input text : List ℕ) (root : Tree) (ms seen : List Monomial)
-    → IsRead input root ms → HasValueOf root ms → seen ≡ ms → IsAntidifferenceOf seen poly scale a y → (scale ≢ pos 0) × (items poly ≢ [])
+    → HasTrees a_term input (root ∷ []) → IsPowerSum root ms → HasValueOf root ms → seen ≡ ms → IsAntidifferenceOf seen poly scale a y → (scale ≢ pos 0) × (items poly ≢ [])
     → carrier ≡ scale → IsNumber scale → IsNumber a → text ≡ document_text (polynomial_document poly scale a carrier y) → IsAnswerText input text
-answered {poly} {y} {scale} {a} {carrier} input text root ms seen read values saw given some same small light printed =
+answered {poly} {y} {scale} {a} {carrier} input text root ms seen read power_sum values saw given some same small light printed =
     let found : IsAntidifferenceOf ms poly scale a y = subst (λ (xs : List Monomial). IsAntidifferenceOf xs poly scale a y) saw given in
     let d : Document = polynomial_document poly scale a scale y in
     let whole : (n k : ℤ) → term_value root n k ≡ of_whole (scale *ℤ value_at (k ∷ []) poly) =
@@ -89,8 +91,9 @@ answered {poly} {y} {scale} {a} {carrier} input text root ms seen read values sa
       d,
       record {
         tree = root;
-        monomials = ms;
         read = read;
+        monomials = ms;
+        power_sum = power_sum;
         poly = poly;
         y = y;
         scale = scale;

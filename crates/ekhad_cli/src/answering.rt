@@ -1,0 +1,71 @@
+//! The document of a term, from text to text.
+
+ghost use Rattle.std.specs.Prelude.{◌≡◌, ◌≤◌, ℕ, List, length, IfOk, IfErr};
+ghost use Rattle.grammar.specs.Several.{a_term};
+ghost use Rattle.term_text.specs.Progress.{HasFault};
+ghost use Rattle.ekhad_cli.specs.Refusals.{IsInside};
+ghost use Rattle.ekhad_cli.specs.Commands.{most_bytes, IsAnswerText, IsCause};
+
+use crate::gosper::gosper;
+use crate::output::Output;
+use crate::power_sum::monomials_of;
+use crate::refusal::{Refusal, SyntaxKind};
+use crate::status::Status;
+use crate::words::Command;
+use cert_text::print_poly_doc;
+use ring_laws::RingFault;
+use std::alloc::Global;
+use term_text::{TextFault, read_term};
+
+// How a text with this first fault is refused.
+fn refusal_of(fault: TextFault) -> Refusal
+    ensures cause { (text : List ℕ) → length text ≤ most_bytes Command.Gosper → HasFault a_term text fault → IsCause Command.Gosper text result }
+    ensures inside { IsInside result }
+{
+    match fault {
+        TextFault::Unexpected { at } => syntax(SyntaxKind::Unexpected, at),
+        TextFault::UnknownName { at } => syntax(SyntaxKind::UnknownName, at),
+        TextFault::UnclosedParen { at } => syntax(SyntaxKind::Unclosed, at),
+        TextFault::EmptyInput => Refusal::EmptyInput,
+        TextFault::NotAscii { at } => syntax(SyntaxKind::NotAscii, at),
+        TextFault::Nesting { at } => syntax(SyntaxKind::Nesting, at),
+        TextFault::LiteralTooLarge { at } => Refusal::LiteralTooLarge { at },
+        TextFault::Memory => Refusal::Memory,
+    }
+}
+
+fn syntax(kind: SyntaxKind, at: u32) -> Refusal
+    ensures syntax { result ≡ Refusal.Syntax kind at }
+{
+    Refusal::Syntax { kind, at }
+}
+
+/// The document that answers a term, which is read as a text.
+pub(crate) fn answer_term(alloc: Global, input: &[u8]) -> Result<Output, Refusal>
+    requires short { length input.now ≤ most_bytes Command.Gosper }
+    ensures output { IfOk result (λ output. (output.status ≡ Status.Found) × IsAnswerText input.now output.text.items) }
+    ensures cause { IfErr result (λ refusal. IsCause Command.Gosper input.now refusal) }
+    ensures inside { IfErr result IsInside }
+{
+    let ast = match read_term(alloc, input) {
+        Ok(ast) => ast,
+        Err(fault) => return Err(refusal_of(fault)),
+    };
+    let monomials = match monomials_of(alloc, &ast) {
+        Ok(Some(monomials)) => monomials,
+        Ok(None) => return Err(Refusal::Unbuilt),
+        Err(_) => return Err(Refusal::Memory),
+    };
+    let doc = match gosper(alloc, &monomials) {
+        Ok(doc) => doc,
+        Err(RingFault::TooLarge) => unreachable!(),
+        Err(RingFault::Memory) => return Err(Refusal::Memory),
+    };
+    match print_poly_doc(alloc, &doc) {
+        Ok(text) => Ok(Output {
+            text,
+            status: Status::Found,
+        }),
+        Err(_) => Err(Refusal::Memory),
+    }
+}
