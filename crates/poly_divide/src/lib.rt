@@ -6,9 +6,11 @@
 #![tactic(auto)]
 
 mod content;
+mod factors;
 mod forms;
 
 pub use content::whole_content;
+pub use factors::without_common_factor;
 pub use forms::{divide_by_form, divide_by_linear};
 
 #[cfg(test)]
