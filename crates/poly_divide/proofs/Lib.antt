@@ -1,3 +1,4 @@
 mod Contents
 mod FormMeanings
+mod CommonFactors
 mod KnownForms

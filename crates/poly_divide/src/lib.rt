@@ -1,14 +1,16 @@
-//! Exact division of polynomials by linear forms, and the greatest common divisor of all coefficients.
+//! Exact division of polynomials by linear forms, the greatest common divisor of all coefficients, and a common factor in any domain.
 //!
 //! Input: polynomials in n, or in k over these. Output: the quotient by a linear form, or none; the content of a row.
 //! What a form means is in `specs/Forms.antt`, and what a content is in `specs/Content.antt`.
-//! Read `forms.rt` (the divisions), then `content.rt`.
+//! Read `forms.rt` (the divisions), `content.rt`, and `factors.rt`, which shows how generic code uses the laws.
 #![tactic(auto)]
 
 mod content;
+mod factors;
 mod forms;
 
 pub use content::whole_content;
+pub use factors::without_common_factor;
 pub use forms::{divide_by_form, divide_by_linear};
 
 #[cfg(test)]

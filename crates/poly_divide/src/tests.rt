@@ -1,17 +1,26 @@
-use crate::{divide_by_form, divide_by_linear, whole_content};
+use crate::{divide_by_form, divide_by_linear, whole_content, without_common_factor};
 use poly_generic::{Poly, Zn, Znk};
-use ring_laws::{Ring, RingFault, Whole};
+use ring_laws::{Domain, Ring, RingFault, Whole};
 use std::alloc::Global;
 
 // The polynomial in n with these coefficients.
 fn numbers(alloc: Global, values: &[i128]) -> Result<Zn, RingFault> {
     let mut list = Vec::new(alloc);
     for value in values {
-        match Whole::new(*value) {
-            Some(item) => list.push(item)?,
-            None => return Err(RingFault::TooLarge),
-        }
+        list.push(number(*value)?)?;
     }
+    Poly::from_coefficients(list)
+}
+
+fn number(value: i128) -> Result<Whole, RingFault> {
+    Whole::new(value).ok_or(RingFault::TooLarge)
+}
+
+// The polynomial in k with these two coefficients.
+fn line(alloc: Global, constant: Zn, slope: Zn) -> Result<Znk, RingFault> {
+    let mut list = Vec::new(alloc);
+    list.push(constant)?;
+    list.push(slope)?;
     Poly::from_coefficients(list)
 }
 
@@ -37,13 +46,12 @@ fn quotients_by_forms_in_two_variables(rt: HostRuntime) -> Result<(), RingFault>
     let product: Znk = Poly::from_coefficients(list)?;
     match divide_by_form(alloc, &product, 2, 1, 0)? {
         Some(quotient) => {
-            let mut sum = Vec::new(alloc);
-            sum.push(numbers(alloc, &[0, 1])?)?;
-            sum.push(numbers(alloc, &[1])?)?;
-            assert!(rt; quotient.same(&Poly::from_coefficients(sum)?));
+            let sum = line(alloc, numbers(alloc, &[0, 1])?, numbers(alloc, &[1])?)?;
+            assert!(rt; quotient.same(&sum));
         }
         None => assert!(rt; false),
     }
+    assert!(rt; divide_by_form(alloc, &product, 1, 2, 0)?.is_none());
     Ok(())
 }
 
@@ -55,5 +63,35 @@ fn content_of_a_row(rt: HostRuntime) -> Result<(), RingFault> {
     row.push(numbers(alloc, &[8])?)?;
     assert_eq!(rt; whole_content(&row), 2);
     assert_eq!(rt; whole_content(&[]), 0);
+    Ok(())
+}
+
+// Whether the factor is taken out of the sum of two multiples, in any domain.
+fn is_taken_out<D: Domain>(
+    alloc: Global,
+    common: &D,
+    left: &D,
+    right: &D,
+) -> Result<bool, RingFault> {
+    if common.is_zero() {
+        return Ok(false);
+    }
+    let sum = without_common_factor(alloc, common, left, right)?;
+    let expected = left.add(alloc, right)?;
+    Ok(sum.same(&expected))
+}
+
+#[test]
+fn a_common_factor_at_three_levels(rt: HostRuntime) -> Result<(), RingFault> {
+    let alloc = rt.alloc();
+    assert!(rt; is_taken_out(alloc, &number(6)?, &number(4)?, &number(-9)?)?);
+    let above = numbers(alloc, &[1, 1])?;
+    let square = numbers(alloc, &[0, 0, 1])?;
+    let three = numbers(alloc, &[3])?;
+    assert!(rt; is_taken_out(alloc, &above, &square, &three)?);
+    let common = line(alloc, above, numbers(alloc, &[1])?)?;
+    let left = line(alloc, square, numbers(alloc, &[0, 2])?)?;
+    let right = line(alloc, three, numbers(alloc, &[-5])?)?;
+    assert!(rt; is_taken_out(alloc, &common, &left, &right)?);
     Ok(())
 }

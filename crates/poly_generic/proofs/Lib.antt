@@ -4,8 +4,10 @@ pub mod Accessors
 pub mod PolyAnswers
 pub mod Senses
 pub mod ProductSteps
+pub mod MagnitudeSums
 pub mod SumAnswers
 pub mod ProductAnswers
+pub mod SureProducts
 pub mod DivideAnswers
 pub mod DomainAnswers
 pub mod StepAnswers

@@ -104,21 +104,27 @@ module _ {T : Type 0} (a : Algebra) (l : Laws a) (meaning : T → Meaning)
       let q : length (trimmed base (list_product base us vs)) ≤ 256 = no_longer us vs p in
       omega (arith, q, count (list_product base us vs), ap (λ t. length (trimmed a.ops t)) f)
 
+  -- what `from_coefficients` gives of a product in bounds
+  pub product_in_bounds_given : {Q : Type 0} (mean : Q → Meaning) (xs ys : List T) (zs : List Meaning) (r : Result Q RingFault) → Trimmed xs
+      → Trimmed ys → ProductInBounds (poly_algebra a) (Mean xs) (Mean ys) → zs ≡ list_product a.ops (m xs) (m ys)
+      → GivesInBounds mean (length (trimmed a.ops zs) ≤ 256) (listed (trimmed a.ops zs)) r
+      → GivesInBounds mean (ProductInBounds (poly_algebra a) (Mean xs) (Mean ys)) ((poly_algebra a).ops.product (Mean xs) (Mean ys)) r
+  product_in_bounds_given mean xs ys zs (Ok q) hx hy b z h =
+      (b, cc (h.1, z, same_items a l meaning passes xs, same_items a l meaning passes ys))
+  product_in_bounds_given mean xs ys zs (Err fault) hx hy b z h =
+      fault_weaker fault (λ n. absurd (n (subst (λ t. length (trimmed a.ops t) ≤ 256) (sym z)
+      (short_product xs ys (list_product_in_bounds xs ys hx hy b).1)))) h
+
   pub product_given : {Q : Type 0} (mean : Q → Meaning) (xs ys bound : List T) (ls rs zs : List Meaning) (r : Result Q RingFault) → Trimmed xs
       → Trimmed ys
       → ls ≡ map a.ops.magnitude (m xs) → rs ≡ map a.ops.magnitude (m ys) → m bound ≡ list_product a.ops ls rs
       → length (trimmed a.ops (m bound)) ≤ 256
       → zs ≡ list_product a.ops (m xs) (m ys) → GivesInBounds mean (length (trimmed a.ops zs) ≤ 256) (listed (trimmed a.ops zs)) r
       → GivesInBounds mean (ProductInBounds (poly_algebra a) (Mean xs) (Mean ys)) ((poly_algebra a).ops.product (Mean xs) (Mean ys)) r
-  product_given mean xs ys bound ls rs zs (Ok q) hx hy e f g b z h =
-      let u : m bound ≡ list_product a.ops (map a.ops.magnitude (m xs)) (map a.ops.magnitude (m ys)) = cc (e, f, g) in (
-        in_bounds_product_of xs ys hx hy (
-          (λ k. subst (λ t. a.ops.Fits (coefficient_at a.ops t k)) u (each_fits a meaning l.magnitudes.fits_nought fits bound k)),
-          subst (λ t. length (trimmed a.ops t) ≤ 256) u b,
-        ),
-        cc (h.1, z, same_items a l meaning passes xs, same_items a l meaning passes ys),
-      )
-  product_given mean xs ys bound ls rs zs (Err fault) hx hy e f g b z h =
+  product_given mean xs ys bound ls rs zs r hx hy e f g b z h =
       let u : m bound ≡ list_product a.ops (map a.ops.magnitude (m xs)) (map a.ops.magnitude (m ys)) = cc (e, f, g) in
-      fault_weaker fault (λ n.
-      absurd (n (subst (λ t. length (trimmed a.ops t) ≤ 256) (sym z) (short_product xs ys (subst (λ t. length (trimmed a.ops t) ≤ 256) u b))))) h
+      product_in_bounds_given mean xs ys zs r hx hy
+      (in_bounds_product_of xs ys hx hy (
+        (λ k. subst (λ t. a.ops.Fits (coefficient_at a.ops t k)) u (each_fits a meaning l.magnitudes.fits_nought fits bound k)),
+        subst (λ t. length (trimmed a.ops t) ≤ 256) u b,
+      )) z h

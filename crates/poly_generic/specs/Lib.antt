@@ -1,1 +1,2 @@
 pub mod ListAnswer
+pub mod MagnitudeSum

@@ -23,7 +23,7 @@ use std::alloc::Global;
 /// It means the list of the meanings of its coefficients.
 #[derive(Drop)]
 pub struct Poly<R: Ring> {
-    list: Vec<R>,
+    pub(crate) list: Vec<R>,
     ghost ended: { IsTrue (is_trimmed R.algebra.ops (map R.meaning list.items)) },
     ghost short: { length list.items ≤ 256 },
 }
@@ -183,11 +183,9 @@ impl<R: Ring> Ring for Poly<R> {
     }
 
     fn mul(&self, alloc: Global, other: &Poly<R>) -> Result<Poly<R>, RingFault> {
-        // The product of the magnitudes covers each step of the product, and doesn't fit exactly where the product is out of bounds.
-        let left = magnitudes(alloc, &self.list)?;
-        let right = magnitudes(alloc, &other.list)?;
-        let bound = product_of_lists(alloc, &left, &right)?;
-        let _bound = Poly::from_coefficients(bound)?;
+        if !self.is_product_surely_in_bounds(alloc, other) {
+            return self.product_by_magnitudes(alloc, other);
+        }
         let list = product_of_lists(alloc, &self.list, &other.list)?;
         Poly::from_coefficients(list)
     }

@@ -73,6 +73,39 @@ fn cancelled_numbers_are_too_large(rt: HostRuntime) -> Result<(), RingFault> {
     Ok(())
 }
 
+// Whether two products answer alike, with a value exactly where there should be one.
+fn are_alike(a: &Result<Znk, RingFault>, b: &Result<Znk, RingFault>, is_in_bounds: bool) -> bool {
+    match (a, b) {
+        (Ok(a), Ok(b)) => is_in_bounds && a.same(b),
+        (Err(a), Err(b)) => !is_in_bounds && a == b,
+        _ => false,
+    }
+}
+
+// The cheap test changes no answer: it lets the first row pass, the product of the magnitudes the second, and neither the third.
+#[test]
+fn both_products_answer_alike(rt: HostRuntime) -> Result<(), RingFault> {
+    let alloc = rt.alloc();
+    let half: i128 = 1 << 63;
+    let rows = [
+        ([5, -2], [3, 4], true),
+        ([half, half - 1], [half - 1, -half], true),
+        ([half, half], [half, -half], false),
+    ];
+    for (left, right, is_in_bounds) in rows {
+        let left: Znk = numbers(alloc, &left)?;
+        let right: Znk = numbers(alloc, &right)?;
+        assert!(rt;
+            are_alike(
+                &left.mul(alloc, &right),
+                &left.product_by_magnitudes(alloc, &right),
+                is_in_bounds
+            )
+        );
+    }
+    Ok(())
+}
+
 #[test]
 fn three_levels(rt: HostRuntime) -> Result<(), RingFault> {
     let alloc = rt.alloc();

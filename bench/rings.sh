@@ -1,0 +1,63 @@
+#!/bin/sh
+# The time and the instructions of a product of two polynomials in k and n, of 20 by 20 coefficients of 20 bits, made in four ways:
+#   polys       `mul` as it is: a cheap test spares the product of the magnitudes
+#   magnitudes  `mul` without that test: the product of the magnitudes decides each time
+#   numbers     the same products of lists with no bound checked but that of each number
+#   free        the same products of lists of numbers that wrap, with no bound at all
+# Wanted: `polys` at most 1.3 times as long as a product without any bound check.
+# The program is bench/products.txt. It is built twice in a folder of its own, over a copy of the crates below it; that proves them first.
+here=$(cd "$(dirname "$0")/.." && pwd) || exit 1
+work=$(mktemp -d) || exit 1
+trap 'rm -rf "$work"' EXIT
+
+# build NAME: the program over the crates that stand in the folder NAME
+build() {
+    (cd "$work/$1/crates/products" && rt run -- polys 0) >"$work/$1.log" 2>&1
+    [ -x "$work/$1/crates/products/out/products" ] || { cat "$work/$1.log" >&2; exit 1; }
+}
+
+mkdir -p "$work/tested/crates/products/src"
+for name in ring_solver ring_laws poly_laws poly_generic; do
+    mkdir "$work/tested/crates/$name" || exit 1
+    cp -r "$here/crates/$name/src" "$here/crates/$name/specs" "$here/crates/$name/proofs" "$work/tested/crates/$name" || exit 1
+    grep "^$name:" "$here/crates.txt" >>"$work/tested/crates.txt" || exit 1
+done
+echo "products: ring_laws poly_generic" >>"$work/tested/crates.txt"
+cp "$here/bench/products.txt" "$work/tested/crates/products/src/main.rt" || exit 1
+build tested
+
+# A test that never says yes needs no proof.
+cp -r "$work/tested" "$work/untested"
+rm -r "$work/untested/crates/poly_generic/proofs/polys/Poly/is_product_surely_in_bounds" || exit 1
+sed -i '/self.list.len() + other.list.len() <= 257/,/is_surely_in_bounds(alloc, &self.list/c\        false' \
+    "$work/untested/crates/poly_generic/src/products.rt"
+build untested
+
+exec python3 - "$work" <<'PY'
+import re, statistics, subprocess, sys, time
+
+work = sys.argv[1]
+ways = [("polys", "tested", "polys"), ("magnitudes", "untested", "polys"), ("numbers", "tested", "numbers"), ("free", "tested", "free")]
+
+def command(folder, way, count):
+    return ["%s/%s/crates/products/out/products" % (work, folder), way, str(count)]
+
+def seconds(words):
+    start = time.perf_counter()
+    subprocess.run(words, check=True)
+    return time.perf_counter() - start
+
+def instructions(words):
+    tool = ["valgrind", "--tool=callgrind", "--callgrind-out-file=/dev/null"]
+    run = subprocess.run(tool + words, check=True, capture_output=True, text=True)
+    return int(re.search(r"Collected : (\d+)", run.stderr).group(1))
+
+figures = {}
+for name, folder, way in ways:
+    times = [(seconds(command(folder, way, 20)) - seconds(command(folder, way, 0))) / 20 for _ in range(9)]
+    counted = instructions(command(folder, way, 2)) - instructions(command(folder, way, 1))
+    figures[name] = (statistics.median(times), counted)
+for name, (length, counted) in figures.items():
+    ratios = ["%.2f of %s" % (counted / figures[other][1], other) for other in ("numbers", "free")]
+    print("%-10s  %7.2f ms  %7.2f million instructions  (%s)" % (name, length * 1e3, counted / 1e6, ", ".join(ratios)))
+PY
