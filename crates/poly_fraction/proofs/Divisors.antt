@@ -6,6 +6,7 @@ use Rattle.std.proofs.lemmas.Int.{ints, unsigned_abs-mul}
 use Rattle.std.proofs.lemmas.Nat.Gcd.{le_of_dvd, dvd_antisymm}
 use Rattle.std.proofs.Math.Nat.{dvd_of_mul-dvd-mul_left, mul-dvd-mul_left, one-dvd, eq-zero_of_zero-dvd}
 use Rattle.std.proofs.Math.IntN.{*ℤ_comm}
+use mathlib.Core.Path.{ap₂}
 use Rattle.ring_laws.specs.Meaning.{number}
 use Rattle.ring_laws.specs.WholeDomain.{abs_nought}
 use Rattle.ring_solver.proofs.Read.{ring_z, reading_z}
@@ -33,10 +34,15 @@ positive_quotient (negsuc m) (pos zero) b h some sign = absurd (some (omega (ari
 positive_quotient (negsuc m) (pos (suc n)) b h some sign = absurd (omega (arith, ints, h, sign.0 (omega (arith, ints))))
 positive_quotient (negsuc m) (negsuc n) b h some sign = absurd (omega (arith, ints, h, sign.1 (omega (arith, ints, h))))
 
+-- a quotient by a divisor is one by a number that is equal to it
+pub quotient_kept : (u p d e : ℤ) {a b : ℤ} → u ≡ p → d ≡ e → p *ℤ e ≡ a → a ≡ b → u *ℤ d ≡ b
+quotient_kept u p d e same kept h k = ap₂ (λ (s t : ℤ). s *ℤ t) same kept ∙ h ∙ k
+
 -- the quotients have the cross products of the numbers
 pub same_quotients : (p q e a b : ℤ) → p *ℤ e ≡ a → q *ℤ e ≡ b → p *ℤ b ≡ a *ℤ q
 same_quotients p q e a b h k =
-    ap (λ (z : ℤ). p *ℤ z) (sym k) ∙ ring_z (p ∷ q ∷ e ∷ []) (search reading_z depth 40 fits 20000) refl ∙ ap (λ (z : ℤ). z *ℤ q) h
+    ap (λ (z : ℤ). p *ℤ z) (sym k) ∙ ring_z (p ∷ q ∷ e ∷ []) (search reading_z depth 40 fits 20000) refl
+    ∙ ap (λ (z : ℤ). z *ℤ q) h
 
 times_divides : (q e a : ℤ) (d : ℕ) → q *ℤ e ≡ a → d ∣ unsigned_abs q → unsigned_abs e * d ∣ unsigned_abs a
 times_divides q e a d h divides =
@@ -47,7 +53,8 @@ times_divides q e a d h divides =
 pub coprime_quotients : (p q e a b : ℤ) → p *ℤ e ≡ a → q *ℤ e ≡ b → e ≢ pos 0 → IsGcd (unsigned_abs a) (unsigned_abs b) (unsigned_abs e)
     → (d : ℕ) → d ∣ unsigned_abs p → d ∣ unsigned_abs q → d ≡ 1
 coprime_quotients p q e a b h k some greatest d x y =
-    let all : unsigned_abs e * d ∣ unsigned_abs e = greatest.2 (unsigned_abs e * d) (times_divides p e a d h x) (times_divides q e b d k y) in
+    let all : unsigned_abs e * d ∣ unsigned_abs e =
+    greatest.2 (unsigned_abs e * d) (times_divides p e a d h x) (times_divides q e b d k y) in
     dvd_antisymm (dvd_of_mul-dvd-mul_left d (positive (unsigned_abs e) refl) (subst (λ n. unsigned_abs e * d ∣ n) (omega arith) all)) (one-dvd d)
   where
     positive : (n : ℕ) → unsigned_abs e ≡ n → 0 < unsigned_abs e

@@ -18,8 +18,8 @@ no_rest a d f g divides =
 
 -- the quotient times the divisor is the number
 pub exact : (a d : ℤ) (r : Option Whole) (w : Whole) → FitsSigned w128 a → FitsSigned w128 d → unsigned_abs a < 2 ^ 127
-    → unsigned_abs d ∣ unsigned_abs a → MatchOption r (coded_div a d ≡ negsuc (2 ^ 127 - 1)) (λ q. q.value ≡ coded_div a d) → r ≡ Some w
-    → w.value *ℤ d ≡ a
+    → unsigned_abs d ∣ unsigned_abs a → MatchOption r (coded_div a d ≡ negsuc (2 ^ 127 - 1)) (λ q. q.value ≡ coded_div a d)
+    → r ≡ Some w → w.value *ℤ d ≡ a
 exact a d r w f g small divides given e =
     ap number_of (subst (λ t. Divides (λ (q : Whole). number q.value) whole_algebra (Unit {0}) (number a) (number d) (Ok t)) e
     (quotient_given a d r f g small (no_rest a d f g divides) given))

@@ -24,7 +24,8 @@ fn size_of_products<R: Ring>(alloc: Global, a: &R, b: &R, c: &R, d: &R) -> Resul
 // a*b + c*d
 pub fn sum_of_products<R: Ring>(alloc: Global, a: &R, b: &R, c: &R, d: &R) -> Result<R, RingFault>
     ensures gives { GivesInBounds R.meaning (ProductsInBounds R.algebra (R.meaning a.now) (R.meaning b.now) (R.meaning c.now) (R.meaning d.now))
-        (R.algebra.ops.sum (R.algebra.ops.product (R.meaning a.now) (R.meaning b.now)) (R.algebra.ops.product (R.meaning c.now) (R.meaning d.now))) result }
+        (R.algebra.ops.sum (R.algebra.ops.product (R.meaning a.now) (R.meaning b.now))
+        (R.algebra.ops.product (R.meaning c.now) (R.meaning d.now))) result }
 {
     let _size = size_of_products(alloc, a, b, c, d)?;
     let left = a.mul(alloc, b)?;

@@ -1,11 +1,11 @@
-use Rattle.std.specs.Prelude.{◌≡◌, ◌≢◌, ℤ, pos, ◌*ℤ◌, ◌<ℤ◌, ◌↔◌, unsigned_abs, IfSome}
+use Rattle.std.specs.Prelude.{◌≡◌, ◌≢◌, pos, ◌*ℤ◌, ◌<ℤ◌, ◌↔◌, unsigned_abs, IfSome}
 use Rattle.std.specs.Int.{◌∣◌, IsGcd, w128, cast_signed as to_z, cast_unsigned as of_z}
 use Rattle.std.proofs.Common.{arith, ap, sym, ◌∙◌, subst, true≢false}
 use Rattle.std.proofs.lemmas.Int.{ints}
 use Rattle.ring_laws.specs.Meaning.{number}
 use Rattle.ring_laws.specs.Wholes.{number_of, is_zero}
 use Rattle.poly_fraction.specs.FractionOf.{fraction_of}
-use Rattle.poly_fraction.proofs.Divisors.{same_quotients, lowest_quotients}
+use Rattle.poly_fraction.proofs.Divisors.{quotient_kept, same_quotients, lowest_quotients}
 use Rattle.poly_fraction.proofs.lowest_terms.lowest.Goals as goal
 
 pub exact_quotient-top-requires-clause-divides : goal.exact_quotient-top-requires-clause-divides
@@ -26,22 +26,20 @@ exact_quotient-bottom-requires-clause-divides c =
 top_is : (c : goal.After-unwrap) → c.unwrap.result.top.value *ℤ c.signed_divisor-divisor.result ≡ c.args.f.now.top.value
 top_is c =
     let d = c.signed_divisor-divisor.result in
+    let q = c.exact_quotient-top in
     let kept : d ≡ to_z w128 (of_z w128 d) = omega (arith, ints) in
-    let given : c.unwrap.result.top.value ≡ c.exact_quotient-top.result.value =
-    ap number_of (subst (λ r. IfSome r (λ f. (fraction_of f).top ≡ number c.exact_quotient-top.result.value)) c.unwrap.ensures c.new.ensures.top) in
-    ap (λ (z : ℤ). z *ℤ d) given
-    ∙ ap (λ (z : ℤ). c.exact_quotient-top.result.value *ℤ z) kept
-    ∙ c.exact_quotient-top.ensures.quotient ∙ ap number_of c.top-top.ensures.top
+    quotient_kept c.unwrap.result.top.value q.result.value d (to_z w128 (of_z w128 d))
+    (ap number_of (subst (λ r. IfSome r (λ f. (fraction_of f).top ≡ number q.result.value)) c.unwrap.ensures c.new.ensures.top)) kept
+    q.ensures.quotient (ap number_of c.top-top.ensures.top)
 
 bottom_is : (c : goal.After-unwrap) → c.unwrap.result.bottom.value *ℤ c.signed_divisor-divisor.result ≡ c.args.f.now.bottom.value
 bottom_is c =
     let d = c.signed_divisor-divisor.result in
+    let q = c.exact_quotient-bottom in
     let kept : d ≡ to_z w128 (of_z w128 d) = omega (arith, ints) in
-    let given : c.unwrap.result.bottom.value ≡ c.exact_quotient-bottom.result.value =
-    ap number_of (subst (λ r. IfSome r (λ f. (fraction_of f).bottom ≡ number c.exact_quotient-bottom.result.value)) c.unwrap.ensures c.new.ensures.bottom) in
-    ap (λ (z : ℤ). z *ℤ d) given
-    ∙ ap (λ (z : ℤ). c.exact_quotient-bottom.result.value *ℤ z) kept
-    ∙ c.exact_quotient-bottom.ensures.quotient ∙ ap number_of c.bottom-bottom.ensures.bottom
+    quotient_kept c.unwrap.result.bottom.value q.result.value d (to_z w128 (of_z w128 d))
+    (ap number_of (subst (λ r. IfSome r (λ f. (fraction_of f).bottom ≡ number q.result.value)) c.unwrap.ensures c.new.ensures.bottom)) kept
+    q.ensures.quotient (ap number_of c.bottom-bottom.ensures.bottom)
 
 pub returns-clause-same : goal.returns-clause-same
 returns-clause-same c =
@@ -50,12 +48,13 @@ returns-clause-same c =
 
 pub returns-clause-lowest : goal.returns-clause-lowest
 returns-clause-lowest c =
-    let d = c.signed_divisor-divisor.result in
-    let top : c.top-top.result.now.value ≡ c.args.f.now.top.value = ap number_of c.top-top.ensures.top in
-    let bottom : c.bottom-bottom.result.now.value ≡ c.args.f.now.bottom.value = ap number_of c.bottom-bottom.ensures.bottom in
-    let not_zero : c.args.f.now.bottom.value ≢ pos 0 = λ h. true≢false (sym (ap is_zero h) ∙ c.args.f.now.nonzero) in
-    lowest_quotients c.unwrap.result.top.value c.unwrap.result.bottom.value d c.args.f.now.top.value c.args.f.now.bottom.value (top_is c) (bottom_is c)
-    c.signed_divisor-divisor.ensures.not_zero not_zero
-    (subst (λ t. (pos 0 <ℤ d) ↔ (pos 0 <ℤ t)) bottom c.signed_divisor-divisor.ensures.sign)
-    (subst (λ t. IsGcd (unsigned_abs t) (unsigned_abs c.args.f.now.bottom.value) (unsigned_abs d)) top
-    (subst (λ t. IsGcd (unsigned_abs c.top-top.result.now.value) (unsigned_abs t) (unsigned_abs d)) bottom c.signed_divisor-divisor.ensures.greatest))
+    let d = c.signed_divisor-divisor in
+    let f = c.args.f.now in
+    let top : c.top-top.result.now.value ≡ f.top.value = ap number_of c.top-top.ensures.top in
+    let bottom : c.bottom-bottom.result.now.value ≡ f.bottom.value = ap number_of c.bottom-bottom.ensures.bottom in
+    let not_zero : f.bottom.value ≢ pos 0 = λ h. true≢false (sym (ap is_zero h) ∙ f.nonzero) in
+    lowest_quotients c.unwrap.result.top.value c.unwrap.result.bottom.value d.result f.top.value f.bottom.value (top_is c) (bottom_is c)
+    d.ensures.not_zero not_zero
+    (subst (λ t. (pos 0 <ℤ d.result) ↔ (pos 0 <ℤ t)) bottom d.ensures.sign)
+    (subst (λ t. IsGcd (unsigned_abs t) (unsigned_abs f.bottom.value) (unsigned_abs d.result)) top
+    (subst (λ t. IsGcd (unsigned_abs c.top-top.result.now.value) (unsigned_abs t) (unsigned_abs d.result)) bottom d.ensures.greatest))
