@@ -1,0 +1,46 @@
+-- Fractions and bounds that are known from elsewhere, so that a wrong rule in specs/ does not check.
+use Rattle.std.specs.Prelude.{◌≡◌, ◌<◌, ◌^◌, ℤ, pos, negsuc, List, [], ◌∷◌, map, refl}
+use Rattle.std.proofs.Common.{arith}
+use Rattle.std.proofs.lemmas.Int.{ints}
+use Rattle.std.proofs.lemmas.Nat.Gcd.{dvd_of_mod-eq-zero}
+use Rattle.ring_laws.specs.Meaning.{number, listed}
+use Rattle.ring_laws.specs.Wholes.{whole_algebra}
+use Rattle.poly_laws.specs.PolyAlgebra.{poly_algebra}
+use Rattle.poly_fraction.specs.Fractions.{RingFraction, sum_of_fractions, difference_of_fractions, product_of_fractions, AreSame, FractionSumInBounds}
+use Rattle.poly_fraction.specs.LowestTerms.{IsLowest}
+
+abbrev of_numbers : ℤ → ℤ → RingFraction
+of_numbers top bottom = record { top = number top; bottom = number bottom }
+
+abbrev of_lists : List ℤ → List ℤ → RingFraction
+of_lists top bottom = record { top = listed (map number top); bottom = listed (map number bottom) }
+
+-- 1/2 + 1/3 = 5/6, 1/2 - 1/3 = 1/6, 1/3 - 1/2 = -1/6, 1/2 * 2/3 = 2/6
+known_results :
+    (sum_of_fractions whole_algebra.ops (of_numbers (pos 1) (pos 2)) (of_numbers (pos 1) (pos 3)) ≡ of_numbers (pos 5) (pos 6))
+    × (difference_of_fractions whole_algebra.ops (of_numbers (pos 1) (pos 2)) (of_numbers (pos 1) (pos 3)) ≡ of_numbers (pos 1) (pos 6))
+    × (difference_of_fractions whole_algebra.ops (of_numbers (pos 1) (pos 3)) (of_numbers (pos 1) (pos 2)) ≡ of_numbers (negsuc 0) (pos 6))
+    × (product_of_fractions whole_algebra.ops (of_numbers (pos 1) (pos 2)) (of_numbers (pos 2) (pos 3)) ≡ of_numbers (pos 2) (pos 6))
+known_results = (refl, refl, refl, refl)
+
+-- 5/6 and 10/12 are the same
+known_same : AreSame whole_algebra.ops (of_numbers (pos 5) (pos 6)) (of_numbers (pos 10) (pos 12))
+known_same = refl
+
+-- 1/n - 1/(n + 1) = 1/(n^2 + n)
+known_polynomials : difference_of_fractions (poly_algebra whole_algebra).ops
+    (of_lists (pos 1 ∷ []) (pos 0 ∷ pos 1 ∷ []))
+    (of_lists (pos 1 ∷ []) (pos 1 ∷ pos 1 ∷ []))
+    ≡ of_lists (pos 1 ∷ []) (pos 0 ∷ pos 1 ∷ pos 1 ∷ [])
+known_polynomials = refl
+
+-- the counterpart of 1/3 - 1/2 on magnitudes is 5 over 6
+known_bounds : FractionSumInBounds whole_algebra (of_numbers (pos 1) (pos 3)) (of_numbers (negsuc 0) (pos 2)) → (5 < 2 ^ 127) × (6 < 2 ^ 127)
+known_bounds b = (b.top, b.bottom)
+
+-- 2/6 and -1/-3 aren't in lowest terms
+known_common_divisor : ¬ IsLowest (of_numbers (pos 2) (pos 6))
+known_common_divisor h = let e : 2 ≡ 1 = h.coprime 2 (dvd_of_mod-eq-zero 2 refl) (dvd_of_mod-eq-zero 2 refl) in omega (arith, e)
+
+known_negative_bottom : ¬ IsLowest (of_numbers (negsuc 0) (negsuc 2))
+known_negative_bottom h = omega (arith, ints, h.positive)

@@ -1,0 +1,6 @@
+pub mod TwoProducts
+pub mod ProductAnswers
+pub mod Denominators
+pub mod ExactQuotients
+pub mod Divisors
+mod KnownFractions

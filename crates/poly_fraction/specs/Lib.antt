@@ -1,0 +1,4 @@
+pub mod Fractions
+pub mod FractionAnswer
+pub mod FractionOf
+pub mod LowestTerms
