@@ -1,38 +1,17 @@
--- Some texts of boxes, and a sum of three.
-use Rattle.std.proofs.Common.{◌≡◌, ℕ, true, false, List, [], ◌∷◌, ◌++◌, refl, inr, pos}
+-- Some texts of boxes and what reading them gives.
+use Rattle.std.proofs.Common.{◌≡◌, ℕ, List, [], ◌∷◌, ◌++◌, refl, inr, pos}
 use Rattle.std.specs.Prelude.{codes, negsuc}
-use Rattle.grammar.specs.Token.{digits, name_n, name_k, plus, minus, opening, comma, semicolon, Placed}
-use Rattle.hypergeometric.specs.Tree.{tree, variable_n, variable_k, sum_of, no_parts, part}
-use Rattle.grammar.specs.Grammar.{product_alone, product_more, Product, power_alone, postfix_alone, Atom, atom_alone, the_n, the_k}
+use Rattle.grammar.specs.Token.{digits, name_n, name_k, minus, opening, comma, semicolon, Placed}
+use Rattle.hypergeometric.specs.Tree.{tree, variable_n, variable_k}
+use Rattle.grammar.specs.Grammar.{product_alone, Product, power_alone, postfix_alone, Atom, atom_alone, the_n, the_k}
 use Rattle.grammar.specs.Bounds.{plain_bound, minus_bound, bound_alone, bound_more}
-use Rattle.grammar.specs.Reading.{IsFirstFault, HasContents, HasTrees, unexpected_at}
-use Rattle.grammar.specs.Several.{a_term, a_boxed, term_alone, term_more, only_terms, with_bounds}
+use Rattle.grammar.specs.Reading.{IsFirstFault, HasContents, unexpected_at}
+use Rattle.grammar.specs.Several.{a_boxed, term_alone, term_more, with_bounds}
 use Rattle.grammar.proofs.TermKinds.{continues_where, not_continues, not_derived_where}
 use Rattle.grammar.proofs.KnownTexts.{nested_where}
 
 abbrev alone : Atom → Product
 alone a = power_alone (postfix_alone (atom_alone a))
-
-abbrev sum_tokens : List Placed
-sum_tokens = (0, name_n) ∷ (1, plus) ∷ (2, name_k) ∷ (3, minus) ∷ (4, name_n) ∷ []
-
--- a sum stands at its first sign
-sum_of_three : HasTrees a_term (codes "n+k-n")
-    (tree 1 (sum_of (part false (tree 0 variable_n) (part false (tree 2 variable_k) (part true (tree 4 variable_n) no_parts)))) ∷ [])
-sum_of_three = (
-  sum_tokens,
-  5,
-  record {
-    are_next = (1, refl, refl, (1, refl, refl, (1, refl, refl, (1, refl, refl, (1, refl, refl, refl)))));
-    nested = nested_where [] sum_tokens refl;
-    continued = continues_where a_term sum_tokens refl;
-  },
-  refl,
-  only_terms (term_alone (product_more (product_more (product_alone (alone (the_n 0))) false 1 (alone (the_k 2))) true 3 (alone (the_n 4)))),
-  record { whole = refl; text = refl },
-  refl,
-  refl,
-)
 
 abbrev box_tokens : List Placed
 box_tokens = (0, name_k) ∷ (1, semicolon) ∷ (2, name_n) ∷ (3, semicolon) ∷ (4, digits 0) ∷ (5, comma) ∷ (6, digits 1) ∷ (7, comma)
@@ -43,8 +22,37 @@ box = (
   box_tokens,
   13,
   record {
-    are_next = (1, refl, refl, (1, refl, refl, (1, refl, refl, (1, refl, refl, (1, refl, refl, (1, refl, refl,
-        (1, refl, refl, (1, refl, refl, (1, refl, refl, (1, refl, refl, (1, refl, refl, (1, refl, refl, refl))))))))))));
+    are_next = (
+      1,
+      refl,
+      refl,
+      (
+        1,
+        refl,
+        refl,
+        (
+          1,
+          refl,
+          refl,
+          (
+            1,
+            refl,
+            refl,
+            (
+              1,
+              refl,
+              refl,
+              (
+                1,
+                refl,
+                refl,
+                (1, refl, refl, (1, refl, refl, (1, refl, refl, (1, refl, refl, (1, refl, refl, (1, refl, refl, refl)))))),
+              ),
+            ),
+          ),
+        ),
+      ),
+    );
     nested = nested_where [] box_tokens refl;
     continued = continues_where a_boxed box_tokens refl;
   },
@@ -101,8 +109,47 @@ three_bounds = (
   three_tokens,
   9,
   record {
-    are_next = (1, refl, refl, (1, refl, refl, (1, refl, refl, (1, refl, refl, (1, refl, refl, (1, refl, refl, (1, refl, refl, (1, refl, refl,
-        (1, refl, refl, refl)))))))));
+    are_next = (
+      1,
+      refl,
+      refl,
+      (
+        1,
+        refl,
+        refl,
+        (
+          1,
+          refl,
+          refl,
+          (
+            1,
+            refl,
+            refl,
+            (
+              1,
+              refl,
+              refl,
+              (
+                1,
+                refl,
+                refl,
+                (
+                  1,
+                  refl,
+                  refl,
+                  (
+                    1,
+                    refl,
+                    refl,
+                    (1, refl, refl, refl),
+                  ),
+                ),
+              ),
+            ),
+          ),
+        ),
+      ),
+    );
     nested = nested_where [] three_tokens refl;
     continued = continues_where a_boxed three_tokens refl;
   },
@@ -114,8 +161,37 @@ five_bounds = (
   box_tokens,
   13,
   record {
-    are_next = (1, refl, refl, (1, refl, refl, (1, refl, refl, (1, refl, refl, (1, refl, refl, (1, refl, refl,
-        (1, refl, refl, (1, refl, refl, (1, refl, refl, (1, refl, refl, (1, refl, refl, (1, refl, refl, refl))))))))))));
+    are_next = (
+      1,
+      refl,
+      refl,
+      (
+        1,
+        refl,
+        refl,
+        (
+          1,
+          refl,
+          refl,
+          (
+            1,
+            refl,
+            refl,
+            (
+              1,
+              refl,
+              refl,
+              (
+                1,
+                refl,
+                refl,
+                (1, refl, refl, (1, refl, refl, (1, refl, refl, (1, refl, refl, (1, refl, refl, (1, refl, refl, refl)))))),
+              ),
+            ),
+          ),
+        ),
+      ),
+    );
     nested = nested_where [] box_tokens refl;
     continued = continues_where a_boxed box_tokens refl;
   },

@@ -9,4 +9,5 @@ pub mod Fitting
 pub mod OneOutcome
 pub mod SmallLiterals
 pub mod KnownTexts
+pub mod KnownPlaces
 pub mod KnownBoxes

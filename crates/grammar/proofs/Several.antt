@@ -87,4 +87,3 @@ terms_run kind (term_more ts at s) rest h =
     terms_run kind ts ((at, semicolon) ∷ sum_text s rest) h.1
     ∙ ap (after kind (sum_text s rest)) (semicolon_steps kind ts at h.0)
     ∙ term_run kind (Some (ts, at)) s rest
-

@@ -23,11 +23,7 @@ pub fn one_derivation()
 
 /// A text of a kind has its trees and bounds, or else one first fault.
 pub fn one_outcome()
-    ensures contents {
-        (kind : Kind) (text : List ℕ) (t u : List Tree) (b c : List ℤ) → HasContents kind text t b → HasContents kind text u c → (t ≡ u) × (b ≡ c)
-    }
-    ensures apart {
-        (kind : Kind) (text : List ℕ) (t : List Tree) (b : List ℤ) (fault : Fault) → HasContents kind text t b → ¬ (IsFirstFault kind text fault)
-    }
+    ensures contents { (kind : Kind) (text : List ℕ) (t u : List Tree) (b c : List ℤ) → HasContents kind text t b → HasContents kind text u c → (t ≡ u) × (b ≡ c) }
+    ensures apart { (kind : Kind) (text : List ℕ) (t : List Tree) (b : List ℤ) (fault : Fault) → HasContents kind text t b → ¬ (IsFirstFault kind text fault) }
     ensures fault { (kind : Kind) (text : List ℕ) (f g : Fault) → IsFirstFault kind text f → IsFirstFault kind text g → f ≡ g }
 {}
