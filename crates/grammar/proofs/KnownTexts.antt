@@ -5,15 +5,15 @@ use Rattle.grammar.specs.Token.{digits, name_n, name_k, name_binomial, minus, st
 use Rattle.hypergeometric.specs.Tree.{tree, literal, variable_n, variable_k, sum_of, product_of, power_of, binomial_of, no_parts, part}
 use Rattle.grammar.specs.Grammar.{product_alone, minus_product, power_alone, power_more, postfix_alone, raised, atom_alone, number, the_n, the_k, choose}
 use Rattle.grammar.specs.Reading.{IsFirstFault, HasTrees, unexpected_at, unclosed_at, empty_input}
-use Rattle.grammar.specs.Several.{a_term, a_pair, a_recurrence, term_alone, term_more}
+use Rattle.grammar.specs.Several.{a_term, a_pair, a_recurrence, term_alone, term_more, only_terms}
 use Rattle.grammar.proofs.TermKinds.{continues_where, not_continues, not_derived_where}
 
 -- texts of few parentheses
-abbrev stays_below : List ℕ → List Placed → Bool
+abbrev pub stays_below : List ℕ → List Placed → Bool
 stays_below places [] = true
 stays_below places (t ∷ ts) = if nat_lt (length places) 64 then stays_below (with_token places t) ts else false
 
-nested_where : (places : List ℕ) (ts : List Placed) → stays_below places ts ≡ true → IsNested64 places ts
+pub nested_where : (places : List ℕ) (ts : List Placed) → stays_below places ts ≡ true → IsNested64 places ts
 nested_where places [] e = tt
 nested_where places (t ∷ ts) e = go (nat_lt (length places) 64) refl e (nested_where (with_token places t) ts)
   where
@@ -38,8 +38,9 @@ square = (
     continued = continues_where a_term square_tokens refl;
   },
   refl,
-  term_alone (product_alone (power_alone (raised (atom_alone (the_k 0)) 1 (number 2 2)))),
+  only_terms (term_alone (product_alone (power_alone (raised (atom_alone (the_k 0)) 1 (number 2 2))))),
   record { whole = refl; text = refl },
+  refl,
   refl,
 )
 
@@ -56,8 +57,9 @@ halved = (
     continued = continues_where a_term halved_tokens refl;
   },
   refl,
-  term_alone (minus_product 0 (power_more (power_more (power_alone (postfix_alone (atom_alone (the_k 1)))) false 2 (postfix_alone (atom_alone (the_n 3)))) true 4 (postfix_alone (atom_alone (number 5 2))))),
+  only_terms (term_alone (minus_product 0 (power_more (power_more (power_alone (postfix_alone (atom_alone (the_k 1)))) false 2 (postfix_alone (atom_alone (the_n 3)))) true 4 (postfix_alone (atom_alone (number 5 2)))))),
   record { whole = refl; text = refl },
+  refl,
   refl,
 )
 
@@ -74,8 +76,9 @@ chosen = (
     continued = continues_where a_term chosen_tokens refl;
   },
   refl,
-  term_alone (product_alone (power_alone (postfix_alone (atom_alone (choose 0 8 (product_alone (power_alone (postfix_alone (atom_alone (the_n 9))))) 10 (product_alone (power_alone (postfix_alone (atom_alone (the_k 12))))) 13))))),
+  only_terms (term_alone (product_alone (power_alone (postfix_alone (atom_alone (choose 0 8 (product_alone (power_alone (postfix_alone (atom_alone (the_n 9))))) 10 (product_alone (power_alone (postfix_alone (atom_alone (the_k 12))))) 13)))))),
   record { whole = refl; text = refl },
+  refl,
   refl,
 )
 
@@ -129,8 +132,9 @@ pair = (
     continued = continues_where a_pair pair_tokens refl;
   },
   refl,
-  term_more (term_alone (product_alone (power_alone (postfix_alone (atom_alone (the_k 0)))))) 1 (product_alone (power_alone (postfix_alone (atom_alone (the_n 2))))),
+  only_terms (term_more (term_alone (product_alone (power_alone (postfix_alone (atom_alone (the_k 0)))))) 1 (product_alone (power_alone (postfix_alone (atom_alone (the_n 2)))))),
   record { whole = refl; text = refl },
+  refl,
   refl,
 )
 

@@ -2,8 +2,12 @@ pub mod Runs
 pub mod Prefixes
 pub mod Texts
 pub mod Several
+pub mod WholeTexts
+pub mod Completions
 pub mod TermKinds
 pub mod Fitting
 pub mod OneOutcome
 pub mod SmallLiterals
 pub mod KnownTexts
+pub mod KnownPlaces
+pub mod KnownBoxes

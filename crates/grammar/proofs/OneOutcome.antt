@@ -1,11 +1,12 @@
--- A text of a kind has one outcome: its trees or one first fault.
+-- A text of a kind has one outcome: its trees and bounds or one first fault.
 use Rattle.std.proofs.Common.{◌≡◌, ℕ, ◌+◌, List, [], ◌∷◌, ◌++◌, ◌⊎◌, refl, ap, sym, ◌∙◌, subst, inl, inr}
+use Rattle.std.specs.Prelude.{ℤ}
 use Rattle.std.proofs.lemmas.List.{append_assoc}
 use Rattle.grammar.specs.Token.{Token, Placed, with_token, open_parentheses, IsOver64, IsNested64}
 use Rattle.grammar.specs.Tokens.{Front, at_end, token, flawed, past_spaces, next_front, HasTokens}
 use Rattle.hypergeometric.specs.Tree.{Tree}
-use Rattle.grammar.specs.Several.{terms_trees, Kind, Continues}
-use Rattle.grammar.specs.Reading.{Fault, IsMisfit, IsFaultBehind, AreFitting, IsFirstFault, HasTrees}
+use Rattle.grammar.specs.Several.{derivation_trees, derivation_bounds, Kind, Continues}
+use Rattle.grammar.specs.Reading.{Fault, IsMisfit, IsFaultBehind, AreFitting, IsFirstFault, HasContents}
 use Rattle.grammar.proofs.TermKinds.{one_derivation}
 
 tokens_same : (x y : Token) (m n : ℕ) → token x m ≡ token y n → (x ≡ y) × (m ≡ n)
@@ -76,13 +77,14 @@ both kind text ts e us f a b s t = go (compared text 0 ts e us f a.are_next b.ar
     go (inr (inl h)) = absurd (not_longer kind text ts e us f s b h)
     go (inr (inr h)) = absurd (not_longer kind text us f ts e t a h)
 
-pub one_trees : (kind : Kind) (text : List ℕ) (t u : List Tree) → HasTrees kind text t → HasTrees kind text u → t ≡ u
-one_trees kind text t u h k =
+pub one_contents : (kind : Kind) (text : List ℕ) (t u : List Tree) (b c : List ℤ) → HasContents kind text t b → HasContents kind text u c → (t ≡ u) × (b ≡ c)
+one_contents kind text t u b c h k =
     let same = both kind text h.0 h.1 k.0 k.1 h.2 k.2 (stops_at_end kind text h.0 h.1 h.3) (stops_at_end kind text k.0 k.1 k.3) in
-    h.6 ∙ ap terms_trees (one_derivation kind h.0 h.4 k.4 h.5 (record { whole = k.5.whole; text = same.0 ∙ k.5.text })) ∙ sym k.6
+    let one = one_derivation kind h.0 h.4 k.4 h.5 (record { whole = k.5.whole; text = same.0 ∙ k.5.text }) in
+    (h.6 ∙ ap derivation_trees one ∙ sym k.6, h.7 ∙ ap derivation_bounds one ∙ sym k.7)
 
-pub trees_or_fault : (kind : Kind) (text : List ℕ) (t : List Tree) (fault : Fault) → HasTrees kind text t → ¬ (IsFirstFault kind text fault)
-trees_or_fault kind text t fault h k =
+pub contents_or_fault : (kind : Kind) (text : List ℕ) (t : List Tree) (b : List ℤ) (fault : Fault) → HasContents kind text t b → ¬ (IsFirstFault kind text fault)
+contents_or_fault kind text t b fault h k =
     let same = both kind text h.0 h.1 k.0 k.1 h.2 k.2 (stops_at_end kind text h.0 h.1 h.3) (stops_at_fault kind text k.0 k.1 fault k.3) in
     let end : next_front text k.1 ≡ at_end = ap (next_front text) (sym same.1) ∙ h.3 in
     let lacks = subst (λ x. IsFaultBehind kind text k.0 (past_spaces text k.1) x fault) end k.3 in

@@ -6,6 +6,7 @@ use Rattle.std.specs.Str.{byte}
 use Rattle.std.specs.Str.Parse.{digits_value}
 use Rattle.grammar.specs.Token.{Token, digits, semicolon, Placed, name_binomial, caret, bang, closing, comma, sum_sign, product_sign}
 use Rattle.grammar.specs.Tokens.{Front, token, flawed, strange, not_ascii, unknown_name, literal_too_large, number_token, name_token, symbol_token, front, past_spaces, HasTokens}
+use Rattle.grammar.specs.Bounds.{Bound, plain_bound, minus_bound, Bounds, bound_alone, bound_more, bound_text, bounds_text}
 use Rattle.grammar.specs.Several.{Terms, term_alone, term_more, terms_text}
 use Rattle.grammar.specs.Grammar.{Sum, product_alone, minus_product, product_more, Product, power_alone, power_more, Power, postfix_alone, raised, Postfix, atom_alone, factorial_at, Atom, number, the_n, the_k, bracket, choose, sum_text, product_text, power_text, postfix_text, atom_text}
 
@@ -94,3 +95,11 @@ mutual
 pub past_terms : (ts : Terms) (rest : List Placed) → AreSmall (terms_text ts rest) → AreSmall rest
 past_terms (term_alone s) rest h = past_sum s rest h
 past_terms (term_more ts at s) rest h = past_sum s rest (past_terms ts ((at, semicolon) ∷ sum_text s rest) h).1
+
+past_bound : (b : Bound) (rest : List Placed) → AreSmall (bound_text b rest) → AreSmall rest
+past_bound (plain_bound at value) rest h = h.1
+past_bound (minus_bound minus_at at value) rest h = h.1.1
+
+pub past_bounds : (bs : Bounds) (rest : List Placed) → AreSmall (bounds_text bs rest) → AreSmall rest
+past_bounds (bound_alone b) rest h = past_bound b rest h
+past_bounds (bound_more bs at b) rest h = past_bound b rest (past_bounds bs ((at, comma) ∷ bound_text b rest) h).1

@@ -1,9 +1,9 @@
--- What reading a text of a kind gives: the trees of the grammar, or the first fault.
-use Rattle.std.specs.Prelude.{ℕ, List, [], ◌∷◌, ◌++◌, ◌≡◌, ◌⊎◌, length}
+-- What reading a text of a kind gives: the trees and bounds of the grammar, or the first fault.
+use Rattle.std.specs.Prelude.{ℕ, List, [], ◌∷◌, ◌++◌, ◌≡◌, ◌⊎◌, length, ℤ}
 use Rattle.grammar.specs.Token.{Token, Placed, open_parentheses, IsOver64, IsNested64}
 use Rattle.grammar.specs.Tokens.{Flaw, strange, not_ascii, unknown_name, literal_too_large, Front, at_end, token, flawed, past_spaces, next_front, HasTokens}
 use Rattle.hypergeometric.specs.Tree.{Tree}
-use Rattle.grammar.specs.Several.{Terms, terms_trees, Kind, Derives, Continues}
+use Rattle.grammar.specs.Several.{Derivation, derivation_trees, derivation_bounds, Kind, Derives, Continues}
 
 pub data Fault : Type 0 where
   unexpected_at : ℕ → Fault
@@ -37,7 +37,7 @@ abbrev pub IsFaultBehind : Kind → List ℕ → List Placed → ℕ → Front �
 IsFaultBehind kind text ts at (flawed flaw) fault = fault ≡ flaw_at flaw at
 IsFaultBehind kind text ts at (token t len) fault = IsMisfit kind ts t at fault
 IsFaultBehind kind text ts at at_end fault =
-    ((s : Terms) → ¬ (Derives kind ts s)) × (fault ≡ end_fault ts (open_parentheses [] ts) (length text))
+    ((d : Derivation) → ¬ (Derives kind ts d)) × (fault ≡ end_fault ts (open_parentheses [] ts) (length text))
 
 -- tokens that were read and fit: some text goes on from them
 pub record AreFitting (kind : Kind) (text : List ℕ) (ts : List Placed) (end : ℕ) : Type 0 where
@@ -49,7 +49,11 @@ abbrev pub IsFirstFault : Kind → List ℕ → Fault → Type 0
 IsFirstFault kind text fault = (ts : List Placed) × (end : ℕ) × AreFitting kind text ts end
     × IsFaultBehind kind text ts (past_spaces text end) (next_front text end) fault
 
--- the trees of its terms in their order
+-- the trees of its terms and the numbers of its bounds, in their order
+abbrev pub HasContents : Kind → List ℕ → List Tree → List ℤ → Type 0
+HasContents kind text trees bounds = (ts : List Placed) × (end : ℕ) × AreFitting kind text ts end × (next_front text end ≡ at_end)
+    × (d : Derivation) × Derives kind ts d × (trees ≡ derivation_trees d) × (bounds ≡ derivation_bounds d)
+
+-- the trees of its terms in their order, and no bounds
 abbrev pub HasTrees : Kind → List ℕ → List Tree → Type 0
-HasTrees kind text trees = (ts : List Placed) × (end : ℕ) × AreFitting kind text ts end × (next_front text end ≡ at_end)
-    × (s : Terms) × Derives kind ts s × (trees ≡ terms_trees s)
+HasTrees kind text trees = HasContents kind text trees []

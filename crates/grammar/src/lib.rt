@@ -1,15 +1,15 @@
 //! The grammar of texts of terms: derivations, what can be continued, the first fault.
 //!
-//! `specs/` has the definitions, in this order: Token, Tokens, Grammar, Several, Reading. `proofs/` has their laws. The functions here do
+//! `specs/` has the definitions, in this order: Token, Tokens, Grammar, Bounds, Several, Reading. `proofs/` has their laws. The functions here do
 //! nothing: the contract of each is a law.
 #![tactic(auto)]
 
-ghost use Rattle.std.specs.Prelude.{◌≡◌, [], ◌++◌, ℕ, List};
+ghost use Rattle.std.specs.Prelude.{◌≡◌, [], ◌++◌, ℕ, List, ℤ};
 ghost use Rattle.grammar.specs.Token.{Placed};
 ghost use Rattle.hypergeometric.specs.Tree.{Tree};
 ghost use Rattle.grammar.specs.Grammar.{Sum, sum_text};
 ghost use Rattle.grammar.specs.Several.{Kind};
-ghost use Rattle.grammar.specs.Reading.{Fault, HasTrees, IsFirstFault};
+ghost use Rattle.grammar.specs.Reading.{Fault, HasContents, IsFirstFault};
 
 /// `sum_text s rest` is the text of `s` and then `rest`.
 pub fn text_in_front()
@@ -21,9 +21,9 @@ pub fn one_derivation()
     ensures one { (s t : Sum) → sum_text s [] ≡ sum_text t [] → s ≡ t }
 {}
 
-/// A text of a kind has its trees, or else one first fault.
+/// A text of a kind has its trees and bounds, or else one first fault.
 pub fn one_outcome()
-    ensures trees { (kind : Kind) (text : List ℕ) (t u : List Tree) → HasTrees kind text t → HasTrees kind text u → t ≡ u }
-    ensures apart { (kind : Kind) (text : List ℕ) (t : List Tree) (fault : Fault) → HasTrees kind text t → ¬ (IsFirstFault kind text fault) }
+    ensures contents { (kind : Kind) (text : List ℕ) (t u : List Tree) (b c : List ℤ) → HasContents kind text t b → HasContents kind text u c → (t ≡ u) × (b ≡ c) }
+    ensures apart { (kind : Kind) (text : List ℕ) (t : List Tree) (b : List ℤ) (fault : Fault) → HasContents kind text t b → ¬ (IsFirstFault kind text fault) }
     ensures fault { (kind : Kind) (text : List ℕ) (f g : Fault) → IsFirstFault kind text f → IsFirstFault kind text g → f ≡ g }
 {}

@@ -11,6 +11,8 @@ pub mod Views
 pub mod Images
 pub mod Trees
 pub mod Literals
+pub mod BoundImages
 pub mod SeveralImages
+pub mod DerivationTrees
 pub mod Turns
 pub mod Counts

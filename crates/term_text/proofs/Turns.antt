@@ -6,13 +6,12 @@ use Rattle.std.proofs.lemmas.Bool.{eqb-true}
 use Rattle.grammar.specs.Token as t
 use Rattle.grammar.specs.Tokens as k
 use Rattle.grammar.specs.Reading as r
-use Rattle.grammar.specs.Several.{Terms, terms_text, terms_trees}
+use Rattle.grammar.specs.Several.{Derivation, derivation_trees}
 use Rattle.grammar.specs.Several as g_kind
 use Rattle.grammar.specs.States as g
 use Rattle.grammar.proofs.TermKinds.{accepted, goes_on}
 use Rattle.grammar.proofs.SmallLiterals.{AreSmall, small_tokens}
-use Rattle.grammar.proofs.Fitting.{run_snoc, open_snoc, fitting_start, fitting_more, fault_flawed, fault_nesting, fault_unexpected, fault_end, trees_at_end}
-use Rattle.term_text.specs.declared.ast.Ast.{Ast}
+use Rattle.grammar.proofs.Fitting.{run_snoc, open_snoc, fitting_start, fitting_more, fault_flawed, fault_nesting, fault_unexpected, fault_end, contents_at_end}
 use Rattle.term_text.specs.declared.state.Token.{Token}
 use Rattle.term_text.specs.declared.front.Flaw.{Flaw}
 use Rattle.term_text.specs.declared.front.Front.TheVariants as front
@@ -24,10 +23,12 @@ use Rattle.term_text.specs.Image.{token_image}
 use Rattle.term_text.specs.Fronts.{front_image, flaw_image}
 use Rattle.term_text.specs.View.{tree_of}
 use Rattle.term_text.specs.declared.several.Kind.{Kind}
-use Rattle.term_text.specs.SeveralSteps.{whole_terms, step_several}
-use Rattle.term_text.specs.SeveralImage.{kind_of, several_image_of, asts_of}
+use Rattle.term_text.specs.declared.several.Contents.{Contents}
+use Rattle.term_text.specs.SeveralSteps.{whole_contents, step_several}
+use Rattle.term_text.specs.SeveralImage.{kind_of, several_image_of, contents, contents_of}
 use Rattle.term_text.specs.Progress.{HasFault, start, without_last, placed, is_opening, taken_state, taken, fault_of_flaw, last_of, end_fault, Fails, ended, places_image, IsAfter}
-use Rattle.term_text.proofs.SeveralImages.{several_step, whole_terms_is, trees_of_terms}
+use Rattle.term_text.proofs.SeveralImages.{several_step, whole_contents_is}
+use Rattle.term_text.proofs.DerivationTrees.{contents_are}
 
 pub last_of-snoc : (ps : List ℕ) (a : ℕ) → last_of (ps ++ a ∷ []) ≡ Some a
 last_of-snoc [] a = refl
@@ -126,15 +127,15 @@ module _ (kind : Kind) (text : List ℕ) (p : Progress) (ts : List t.Placed) (at
       (guard_true x (t.open_parentheses [] ts) (length p.places) (ap length a.places ∙ places_length (t.open_parentheses [] ts)) e)
   by_guard false e =
       subst (λ o. TakenIs (kind_of kind) text (ts ++ (at, x) ∷ []) (at + len) (taken_state o (placed p.places (token_image x) at) at (at + len)))
-      (sym (ap (λ s. step_several kind s (token_image x) at) a.reached.2 ∙ several_step kind a.reached.0 at x))
+      (sym (ap (λ s. step_several kind s (token_image x) at) a.reached.2 ∙ several_step kind a.reached.0 at x (goes_on (kind_of kind) ts a.reached.0 a.reached.1)))
       (by_state (g.step_terms (kind_of kind) a.reached.0 at x) refl (guard_false x (t.open_parentheses [] ts) (length p.places) (ap length a.places ∙ places_length (t.open_parentheses [] ts)) e))
 
   pub taken_is : TakenIs (kind_of kind) text (ts ++ (at, x) ∷ []) (at + len) (taken kind p (token_image x) at (at + len))
   taken_is = by_guard (is_opening (token_image x) && length p.places == 64) refl
 
 -- the end
-abbrev pub EndIs : g_kind.Kind → List ℕ → Result (List Ast) TextFault → Type 0
-EndIs kind text (Ok terms) = r.HasTrees kind text (map tree_of terms)
+abbrev pub EndIs : g_kind.Kind → List ℕ → Result Contents TextFault → Type 0
+EndIs kind text (Ok c) = r.HasContents kind text (map tree_of c.terms) c.bounds
 EndIs kind text (Err e) = HasFault kind text e
 
 ending : (kind : g_kind.Kind) (text : List ℕ) (ts : List t.Placed) (ps : List ℕ) (n : ℕ) → r.IsFirstFault kind text (r.end_fault ts ps n) → HasFault kind text (end_fault (places_image ps) (is_empty ts) n)
@@ -146,16 +147,18 @@ ending kind text (x ∷ ts) (a ∷ ps) n h =
 pub ended_is : (kind : Kind) (text : List ℕ) (p : Progress) (ts : List t.Placed) → IsAfter (kind_of kind) text p ts → k.next_front text p.from ≡ k.at_end →
     EndIs (kind_of kind) text (ended kind p (length text))
 ended_is kind text p ts a e =
-    subst (λ o. EndIs (kind_of kind) text (elim o as (λ _. Result (List Ast) TextFault) [ Some a ↦ Ok a | None ↦ Err (end_fault p.places p.empty (length text)) ]))
-    (sym (ap (whole_terms kind) a.reached.2 ∙ whole_terms_is kind a.reached.0 (goes_on (kind_of kind) ts a.reached.0 a.reached.1)))
+    subst (λ o. EndIs (kind_of kind) text (elim o as (λ _. Result Contents TextFault) [ Some c ↦ Ok c | None ↦ Err (end_fault p.places p.empty (length text)) ]))
+    (sym (ap (whole_contents kind) a.reached.2 ∙ whole_contents_is kind a.reached.0 (goes_on (kind_of kind) ts a.reached.0 a.reached.1)))
     (go (g.finished_terms (kind_of kind) a.reached.0) refl)
   where
-    go : (o : Option Terms) → g.finished_terms (kind_of kind) a.reached.0 ≡ o →
-        EndIs (kind_of kind) text (elim (asts_of o) as (λ _. Result (List Ast) TextFault) [ Some a ↦ Ok a | None ↦ Err (end_fault p.places p.empty (length text)) ])
+    go : (o : Option Derivation) → g.finished_terms (kind_of kind) a.reached.0 ≡ o →
+        EndIs (kind_of kind) text (elim (contents_of o) as (λ _. Result Contents TextFault) [ Some c ↦ Ok c | None ↦ Err (end_fault p.places p.empty (length text)) ])
     go (Some c) f =
         let derived = accepted (kind_of kind) ts a.reached.0 c a.reached.1 f in
         let small = subst AreSmall derived.text (small_tokens text 0 ts p.from a.fits.are_next) in
-        subst (r.HasTrees (kind_of kind) text) (sym (trees_of_terms c [] small)) (trees_at_end (kind_of kind) text ts p.from a.reached.0 c a.fits a.reached.1 e f)
+        let are = contents_are c small in
+        let whole = contents_at_end (kind_of kind) text ts p.from a.reached.0 c a.fits a.reached.1 e f in
+        subst (λ t. r.HasContents (kind_of kind) text t (contents c).bounds) (sym are.0) (subst (r.HasContents (kind_of kind) text (derivation_trees c)) (sym are.1) whole)
     go None f = subst (λ ps. HasFault (kind_of kind) text (end_fault ps p.empty (length text))) (sym a.places)
         (subst (λ b. HasFault (kind_of kind) text (end_fault (places_image (t.open_parentheses [] ts)) b (length text))) (sym a.empty)
         (ending (kind_of kind) text ts (t.open_parentheses [] ts) (length text) (fault_end (kind_of kind) text ts p.from a.reached.0 a.fits a.reached.1 e f)))
@@ -219,7 +222,7 @@ fails_reads kind text P as_read (NotAscii at) read h p = as_read (NotAscii at) (
 fails_reads kind text P as_read (Nesting at) read h p = as_read (Nesting at) (subst P h p)
 fails_reads kind text P as_read (LiteralTooLarge at) read h p = as_read (LiteralTooLarge at) (subst P h p)
 
-pub ended_fails : (kind : g_kind.Kind) (text : List ℕ) (e : TextFault) (read : Result (List Ast) TextFault) → Fails e read → EndIs kind text read → HasFault kind text e
+pub ended_fails : (kind : g_kind.Kind) (text : List ℕ) (e : TextFault) (read : Result Contents TextFault) → Fails e read → EndIs kind text read → HasFault kind text e
 ended_fails kind text = fails_reads kind text (EndIs kind text) (λ e h. h)
 
 pub taken_fails : (kind : g_kind.Kind) (text : List ℕ) (ts : List t.Placed) (end : ℕ) (e : TextFault) (read : Result Progress TextFault) → Fails e read → TakenIs kind text ts end read → HasFault kind text e

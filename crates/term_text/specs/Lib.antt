@@ -6,6 +6,7 @@ pub mod View
 pub mod Literals
 pub mod Steps
 pub mod Image
+pub mod BoundSteps
 pub mod SeveralSteps
 pub mod SeveralImage
 pub mod Fronts

@@ -15,10 +15,13 @@ use Rattle.term_text.specs.declared.read.Progress.{Progress}
 use Rattle.term_text.specs.declared.read.Turn.{Turn}
 use Rattle.term_text.specs.declared.read.Turn.TheVariants as turn
 use Rattle.term_text.specs.Steps.{is_empty}
-use Rattle.term_text.specs.SeveralSteps.{begin, whole_terms, step_several}
+use Rattle.term_text.specs.SeveralSteps.{begin, whole_contents, step_several}
 use Rattle.term_text.specs.SeveralImage.{several_image}
 use Rattle.term_text.specs.declared.several.Kind.{Kind}
+use Rattle.term_text.specs.declared.several.Now.TheVariants.{Term}
 use Rattle.term_text.specs.declared.several.Several.{Several}
+use Rattle.term_text.specs.declared.several.Contents.{Contents}
+use Rattle.term_text.specs.declared.bounds.BoxRange.{BoxRange}
 use Rattle.term_text.specs.View.{tree_of}
 
 -- The first fault of a text of a kind, in the code's words. Memory may be refused at any text.
@@ -46,6 +49,15 @@ abbrev pub ReadsPair : List ℕ → Result (Ast × Ast) TextFault → Type 0
 ReadsPair text (Ok p) = r.HasTrees k.a_pair text (tree_of p.0 ∷ tree_of p.1 ∷ [])
 ReadsPair text (Err e) = HasFault k.a_pair text e
 
+abbrev pub ReadsBoxed : List ℕ → Result (Ast × Ast × BoxRange) TextFault → Type 0
+ReadsBoxed text (Ok b) = r.HasContents k.a_boxed text (tree_of b.0 ∷ tree_of b.1 ∷ []) (b.2.n0 ∷ b.2.n1 ∷ b.2.k0 ∷ b.2.k1 ∷ [])
+ReadsBoxed text (Err e) = HasFault k.a_boxed text e
+
+-- the terms and the bounds of a text, or its first fault
+abbrev pub ReadsContents : k.Kind → List ℕ → Result Contents TextFault → Type 0
+ReadsContents kind text (Ok c) = r.HasContents kind text (map tree_of c.terms) c.bounds
+ReadsContents kind text (Err e) = HasFault kind text e
+
 -- what a call gives unless memory runs out
 abbrev pub Fails : {A : Type 0} → TextFault → Result A TextFault → Type 0
 Fails Memory read = Unit {0}
@@ -56,7 +68,7 @@ Gives (Ok x) read = read ≡ Ok x
 Gives (Err e) read = Fails e read
 
 abbrev pub start : Progress
-start = record { from = 0; several = record { before = []; now = begin }; places = []; empty = true }
+start = record { from = 0; several = record { before = []; now = Term begin }; places = []; empty = true }
 
 abbrev pub without_last : List ℕ → List ℕ
 without_last ps = take (length ps - 1) ps
@@ -95,8 +107,8 @@ end_fault places empty len =
     if empty then EmptyInput
     else (elim (last_of places) as (λ _. TextFault) [ None ↦ Unexpected len | Some at ↦ UnclosedParen at ])
 
-abbrev pub ended : Kind → Progress → ℕ → Result (List Ast) TextFault
-ended kind p len = elim (whole_terms kind p.several) as (λ _. Result (List Ast) TextFault) [ Some a ↦ Ok a | None ↦ Err (end_fault p.places p.empty len) ]
+abbrev pub ended : Kind → Progress → ℕ → Result Contents TextFault
+ended kind p len = elim (whole_contents kind p.several) as (λ _. Result Contents TextFault) [ Some c ↦ Ok c | None ↦ Err (end_fault p.places p.empty len) ]
 
 -- the code's places of those of the definition, the last one last
 abbrev pub places_image : List ℕ → List ℕ
@@ -112,6 +124,6 @@ pub record IsAfter (kind : k.Kind) (text : List ℕ) (p : Progress) (ts : List t
 
 -- What one turn gives.
 abbrev pub IsTurn : k.Kind → List ℕ → Progress → Result Turn TextFault → Type 0
-IsTurn kind text p (Ok (turn.Done terms)) = r.HasTrees kind text (map tree_of terms)
+IsTurn kind text p (Ok (turn.Done c)) = r.HasContents kind text (map tree_of c.terms) c.bounds
 IsTurn kind text p (Ok (turn.More next)) = (ts : List t.Placed) × IsAfter kind text next ts × (p.from < next.from) × (next.from ≤ length text)
 IsTurn kind text p (Err e) = HasFault kind text e

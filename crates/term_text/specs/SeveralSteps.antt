@@ -1,5 +1,5 @@
--- How a reader of several terms changes with a token.
-use Rattle.std.specs.Prelude.{ℕ, Bool, true, false, not, List, [], ◌∷◌, ◌++◌, Option, Some, None, if◌then◌else◌}
+-- How a reader of a text changes with a token.
+use Rattle.std.specs.Prelude.{ℕ, Bool, true, false, not, List, [], ◌∷◌, ◌++◌, Option, Some, None, ℤ, if◌then◌else◌}
 use Rattle.term_text.specs.declared.ast.Ast.{Ast}
 use Rattle.term_text.specs.declared.state.Token.{Token}
 use Rattle.term_text.specs.declared.state.Token.TheVariants as token
@@ -9,8 +9,13 @@ use Rattle.term_text.specs.declared.state.Level.{Level}
 use Rattle.term_text.specs.declared.state.Outer.{Outer}
 use Rattle.term_text.specs.declared.state.State.{State}
 use Rattle.term_text.specs.declared.several.Kind.{Kind}
-use Rattle.term_text.specs.declared.several.Kind.TheVariants.{Term, Pair, Recurrence}
+use Rattle.term_text.specs.declared.several.Kind.TheVariants.{Term, Pair, Boxed, Recurrence}
+use Rattle.term_text.specs.declared.several.Now.{Now}
+use Rattle.term_text.specs.declared.several.Now.TheVariants as now
 use Rattle.term_text.specs.declared.several.Several.{Several}
+use Rattle.term_text.specs.declared.several.Contents.{Contents}
+use Rattle.term_text.specs.declared.bounds.Bounds.{Bounds}
+use Rattle.term_text.specs.BoundSteps.{no_bounds, step_bounds, whole_bounds}
 use Rattle.term_text.specs.Steps.{is_empty, empty_level, whole_sum, step}
 
 abbrev pub begin : State
@@ -20,12 +25,19 @@ begin = record { stage = stage.Atom; level = empty_level; outer = [] }
 abbrev pub is_open : Kind → List Ast → Bool
 is_open Term before = false
 is_open Pair before = is_empty before
+is_open Boxed before = is_empty before
 is_open Recurrence before = true
+
+-- whether bounds follow the term behind these
+abbrev pub takes_bounds : Kind → List Ast → Bool
+takes_bounds Boxed before = not (is_empty before)
+takes_bounds _ before = false
 
 -- whether the term behind these may be the last
 abbrev pub is_whole : Kind → List Ast → Bool
 is_whole Term before = is_empty before
 is_whole Pair before = not (is_empty before)
+is_whole Boxed before = false
 is_whole Recurrence before = not (is_empty before)
 
 abbrev pub whole_at : Stage → Level → List Outer → Option Ast
@@ -40,21 +52,56 @@ abbrev pub with_last : List Ast → Option Ast → Option (List Ast)
 with_last before None = None
 with_last before (Some a) = Some (before ++ a ∷ [])
 
--- all the terms, where the text may end here
-abbrev pub whole_terms : Kind → Several → Option (List Ast)
-whole_terms kind m = if is_whole kind m.before then with_last m.before (whole m.now) else None
+abbrev pub terms_alone : Option (List Ast) → Option Contents
+terms_alone None = None
+terms_alone (Some terms) = Some (record { terms = terms; bounds = [] })
 
-abbrev pub behind_terms : Option (List Ast) → Option Several
-behind_terms None = None
-behind_terms (Some terms) = Some (record { before = terms; now = begin })
+-- all the terms of a text without bounds, where it may end here
+abbrev pub only_terms : Kind → List Ast → State → Option Contents
+only_terms kind before s = if is_whole kind before then terms_alone (with_last before (whole s)) else None
 
-abbrev pub next_term : Kind → List Ast → State → Option Several
-next_term kind before now = if is_open kind before then behind_terms (with_last before (whole now)) else None
+abbrev pub boxed_terms : List Ast → Option (List ℤ) → Option Contents
+boxed_terms terms None = None
+boxed_terms terms (Some bounds) = Some (record { terms = terms; bounds = bounds })
+
+-- all the terms and bounds, where the text may end here
+abbrev pub whole_contents : Kind → Several → Option Contents
+whole_contents kind m = elim m.now as (λ _. Option Contents) [
+  | now.Term s ↦ only_terms kind m.before s
+  | now.Bounds b ↦ boxed_terms m.before (whole_bounds b)
+]
+
+-- what begins behind some terms
+abbrev pub begun : Now → Option (List Ast) → Option Several
+begun n None = None
+begun n (Some terms) = Some (record { before = terms; now = n })
+
+abbrev pub next_term : List Ast → State → Option Several
+next_term before s = begun (now.Term begin) (with_last before (whole s))
+
+abbrev pub first_bound : List Ast → State → Option Several
+first_bound before s = begun (now.Bounds no_bounds) (with_last before (whole s))
+
+abbrev pub next_part : Kind → List Ast → State → Option Several
+next_part kind before s =
+    if is_open kind before then next_term before s
+    else if takes_bounds kind before then first_bound before s
+    else None
 
 abbrev pub with_now : List Ast → Option State → Option Several
 with_now before None = None
-with_now before (Some s) = Some (record { before = before; now = s })
+with_now before (Some s) = Some (record { before = before; now = now.Term s })
+
+abbrev pub step_term : Kind → List Ast → State → Token → ℕ → Option Several
+step_term kind before s token.Semicolon at = next_part kind before s
+step_term kind before s t at = with_now before (step s t at)
+
+abbrev pub in_bounds : List Ast → Option Bounds → Option Several
+in_bounds before None = None
+in_bounds before (Some b) = Some (record { before = before; now = now.Bounds b })
 
 abbrev pub step_several : Kind → Several → Token → ℕ → Option Several
-step_several kind m token.Semicolon at = next_term kind m.before m.now
-step_several kind m t at = with_now m.before (step m.now t at)
+step_several kind m t at = elim m.now as (λ _. Option Several) [
+  | now.Term s ↦ step_term kind m.before s t at
+  | now.Bounds b ↦ in_bounds m.before (step_bounds b t)
+]

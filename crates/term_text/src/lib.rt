@@ -18,6 +18,7 @@ ghost use Rattle.term_text.specs.Powers.{IsRead, HasValueOf, ArePowers};
 ghost use Rattle.term_text.specs.Reading.{IsSign, StopsAt};
 
 mod ast;
+mod bounds;
 mod fault;
 mod front;
 mod mono;
@@ -27,8 +28,9 @@ mod several;
 mod state;
 
 pub use ast::{Ast, Node, Part};
+pub use bounds::BoxRange;
 pub use fault::TextFault;
-pub use read::{read_pair, read_recurrence, read_term};
+pub use read::{read_boxed, read_pair, read_recurrence, read_term};
 use std::alloc::Global;
 
 /// A whole number other than 0, below 10^6 in magnitude, times a power of k from 0 to 4.

@@ -1,15 +1,16 @@
-//! Reads a text of one term, of a pair or of a recurrence: its trees, or its first fault.
+//! Reads a text of one term, of a pair, of a box or of a recurrence: its trees and bounds, or its first fault.
 ghost use Rattle.std.specs.Prelude.{◌≡◌, [], ◌∷◌, ◌≤◌, ◌<◌, ◌^◌, length, IfOk, IfErr, Some, None, ℕ, List};
 ghost use Rattle.grammar.specs.Token.{Placed};
 ghost use Rattle.grammar.specs.Several.{a_recurrence};
 ghost use Rattle.term_text.specs.SeveralImage.{kind_of};
-ghost use Rattle.term_text.specs.Progress.{start, placed, taken, Gives, fault_of_flaw, end_fault, ended, IsAfter, IsTurn, ReadsTerms, ReadsTerm, ReadsPair};
+ghost use Rattle.term_text.specs.Progress.{start, placed, taken, Gives, fault_of_flaw, end_fault, ended, IsAfter, IsTurn, ReadsContents, ReadsTerms, ReadsTerm, ReadsPair, ReadsBoxed};
 
 use crate::ast::Ast;
+use crate::bounds::{BoxRange, range_of};
 use crate::fault::TextFault;
 use crate::front::{Flaw, Front, front_at, past_spaces};
 use crate::places::Places;
-use crate::several::{Kind, Several, begin};
+use crate::several::{Contents, Kind, Now, Several, begin};
 use crate::state::Token;
 use sqlite_items::Items;
 use std::alloc::{AllocError, Global};
@@ -31,7 +32,7 @@ fn start(alloc: Global) -> Progress
 {
     let several = Several {
         before: Items::new(alloc),
-        now: begin(alloc),
+        now: Now::Term(begin(alloc)),
     };
     Progress {
         from: 0,
@@ -113,8 +114,8 @@ fn end_fault(places: Places, empty: bool, len: u32) -> TextFault
     }
 }
 
-// The trees, where the text may end here, or the fault of its end.
-fn ended(kind: Kind, progress: Progress, len: u32) -> Result<Items<Ast>, TextFault>
+// The trees and bounds, where the text may end here, or the fault of its end.
+fn ended(alloc: Global, kind: Kind, progress: Progress, len: u32) -> Result<Contents, TextFault>
     ensures { Gives result (ended kind progress len) }
 {
     let Progress {
@@ -124,15 +125,15 @@ fn ended(kind: Kind, progress: Progress, len: u32) -> Result<Items<Ast>, TextFau
         empty,
     } = progress;
     let fault = end_fault(places, empty, len);
-    match several.whole_terms(kind)? {
-        Some(terms) => Ok(terms),
+    match several.whole(alloc, kind)? {
+        Some(contents) => Ok(contents),
         None => Err(fault),
     }
 }
 
 #[derive(Drop)]
 enum Turn {
-    Done(Items<Ast>),
+    Done(Contents),
     More(Progress),
 }
 
@@ -144,8 +145,8 @@ fn next_turn(alloc: Global, kind: Kind, text: &[u8], progress: Progress) -> Resu
 {
     let at = past_spaces(text, progress.from);
     match front_at(text, at) {
-        Front::End => match ended(kind, progress, text.len() as u32) {
-            Ok(terms) => Ok(Turn::Done(terms)),
+        Front::End => match ended(alloc, kind, progress, text.len() as u32) {
+            Ok(contents) => Ok(Turn::Done(contents)),
             Err(fault) => Err(fault),
         },
         Front::Flawed(flaw) => Err(fault_of_flaw(flaw, at as u32)),
@@ -156,15 +157,15 @@ fn next_turn(alloc: Global, kind: Kind, text: &[u8], progress: Progress) -> Resu
     }
 }
 
-// The trees of the terms of a text, or its first fault.
-fn read_terms(alloc: Global, kind: Kind, text: &[u8]) -> Result<Items<Ast>, TextFault>
+// The trees and bounds of a text, or its first fault.
+fn read_contents(alloc: Global, kind: Kind, text: &[u8]) -> Result<Contents, TextFault>
     requires short { length text.now ≤ 65536 }
-    ensures reads { ReadsTerms (kind_of kind) text.now result }
+    ensures reads { ReadsContents (kind_of kind) text.now result }
 {
     let mut progress = start(alloc);
     loop {
         match next_turn(alloc, kind, text, progress) {
-            Ok(Turn::Done(terms)) => return Ok(terms),
+            Ok(Turn::Done(contents)) => return Ok(contents),
             Ok(Turn::More(next)) => progress = next,
             Err(fault) => return Err(fault),
         }
@@ -195,8 +196,8 @@ pub fn read_term(alloc: Global, text: &[u8]) -> Result<Ast, TextFault>
     requires short { length text.now ≤ 65536 }
     ensures reads { ReadsTerm text.now result }
 {
-    match read_terms(alloc, Kind::Term, text) {
-        Ok(terms) => Ok(only(terms)),
+    match read_contents(alloc, Kind::Term, text) {
+        Ok(contents) => Ok(only(contents.terms)),
         Err(fault) => Err(fault),
     }
 }
@@ -206,8 +207,25 @@ pub fn read_pair(alloc: Global, text: &[u8]) -> Result<(Ast, Ast), TextFault>
     requires short { length text.now ≤ 65536 }
     ensures reads { ReadsPair text.now result }
 {
-    match read_terms(alloc, Kind::Pair, text) {
-        Ok(terms) => Ok(both(terms)),
+    match read_contents(alloc, Kind::Pair, text) {
+        Ok(contents) => Ok(both(contents.terms)),
+        Err(fault) => Err(fault),
+    }
+}
+
+/// The trees of the text of two terms, and the range of the four bounds behind them, or exactly its first fault.
+///
+/// Semicolons stand behind the terms, commas between the bounds. A bound is digits, or a minus and then digits.
+pub fn read_boxed(alloc: Global, text: &[u8]) -> Result<(Ast, Ast, BoxRange), TextFault>
+    requires short { length text.now ≤ 65536 }
+    ensures reads { ReadsBoxed text.now result }
+{
+    match read_contents(alloc, Kind::Boxed, text) {
+        Ok(contents) => {
+            let range = range_of(contents.bounds.as_slice());
+            let (first, last) = both(contents.terms);
+            Ok((first, last, range))
+        }
         Err(fault) => Err(fault),
     }
 }
@@ -217,7 +235,10 @@ pub fn read_recurrence(alloc: Global, text: &[u8]) -> Result<Items<Ast>, TextFau
     requires short { length text.now ≤ 65536 }
     ensures reads { ReadsTerms a_recurrence text.now result }
 {
-    read_terms(alloc, Kind::Recurrence, text)
+    match read_contents(alloc, Kind::Recurrence, text) {
+        Ok(contents) => Ok(contents.terms),
+        Err(fault) => Err(fault),
+    }
 }
 
 #[cfg(test)]
@@ -378,6 +399,73 @@ mod tests {
         assert!(rt; matches!(open, Err(TextFault::UnclosedParen { at: 2 })));
         let inner = read_pair(rt.alloc(), b"(k;n)".as_slice());
         assert!(rt; matches!(inner, Err(TextFault::Unexpected { at: 2 })));
+    }
+
+    // The range of the bounds of a box, whose terms are k and n at 0 and 2, or its fault.
+    fn range_of(rt: &HostRuntime, text: &[u8]) -> Result<BoxRange, TextFault> {
+        if text.len() > 65536 {
+            return Err(TextFault::EmptyInput);
+        }
+        match read_boxed(rt.alloc(), text) {
+            Ok((first, last, range)) => {
+                if is_variable(&first, b'k', 0) && is_variable(&last, b'n', 2) {
+                    Ok(range)
+                } else {
+                    Err(TextFault::EmptyInput)
+                }
+            }
+            Err(fault) => Err(fault),
+        }
+    }
+
+    fn range(n0: i128, n1: i128, k0: i128, k1: i128) -> BoxRange {
+        BoxRange { n0, n1, k0, k1 }
+    }
+
+    #[test]
+    fn boxes(rt: HostRuntime) {
+        let table: [(&[u8], BoxRange); 4] = [
+            (b"k;n;0,1,-2,3", range(0, 1, -2, 3)),
+            (b"k;n;0,1,- 2,3", range(0, 1, -2, 3)),
+            (b"k;n ; - 0 , 007, - 00 , 3 ", range(0, 7, 0, 3)),
+            (
+                b"k;n;-170141183460469231731687303715884105727,0,0,000170141183460469231731687303715884105727",
+                range(-i128::MAX, 0, 0, i128::MAX),
+            ),
+        ];
+        for (text, wanted) in table {
+            assert!(rt; range_of(&rt, text) == Ok(wanted));
+        }
+    }
+
+    #[test]
+    fn faults_of_boxes(rt: HostRuntime) {
+        let table: [(&[u8], TextFault); 15] = [
+            (b"k;n", TextFault::Unexpected { at: 3 }),
+            (b"k;n;", TextFault::Unexpected { at: 4 }),
+            (b"k;n;--2,0,0,0", TextFault::Unexpected { at: 5 }),
+            (b"k;n;0,1,2", TextFault::Unexpected { at: 9 }),
+            (b"k;n;0,1,2,", TextFault::Unexpected { at: 10 }),
+            (b"k;n;0,1,,3", TextFault::Unexpected { at: 8 }),
+            (b"k;n;0,1,2,3,4", TextFault::Unexpected { at: 11 }),
+            (b"k;n;0,1,2,-", TextFault::Unexpected { at: 11 }),
+            (b"k;n;(0),1,2,3", TextFault::Unexpected { at: 4 }),
+            (b"k;n;0;1,2,3", TextFault::Unexpected { at: 5 }),
+            (b"k;n;k,1,2,3", TextFault::Unexpected { at: 4 }),
+            (b"k;n;1+1,1,2,3", TextFault::Unexpected { at: 5 }),
+            (b"k;(n;0,1,2,3", TextFault::Unexpected { at: 4 }),
+            (
+                b"k;n;0,- 170141183460469231731687303715884105728,2,3",
+                TextFault::LiteralTooLarge { at: 8 },
+            ),
+            (
+                b"k;n;0,1,2,000170141183460469231731687303715884105728",
+                TextFault::LiteralTooLarge { at: 10 },
+            ),
+        ];
+        for (text, fault) in table {
+            assert!(rt; range_of(&rt, text) == Err(fault));
+        }
     }
 
     #[test]
