@@ -1,12 +1,3 @@
-pub mod Digits
-pub mod Cutting
-pub mod MonoTexts
-pub mod Numbers
-pub mod Spellings
-pub mod Left
-pub mod Values
-pub mod Kept
-mod KnownPowers
 pub mod Views
 pub mod Images
 pub mod Trees

@@ -1,7 +1,3 @@
-pub mod PowersText
-pub mod PowersTree
-pub mod Powers
-pub mod Reading
 pub mod View
 pub mod Literals
 pub mod Steps
