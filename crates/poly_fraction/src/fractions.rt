@@ -16,7 +16,8 @@ pub struct Frac<R: Domain> {
 
 impl<R: Domain> Frac<R> {
     ghost use Rattle.std.specs.Prelude.{◌≡◌, ◌↔◌, IsTrue, IsFalse, IsNone, IfSome};
-    ghost use Rattle.poly_fraction.specs.Fractions.{RingFraction, sum_of_fractions, difference_of_fractions, product_of_fractions, AreSame, FractionSumInBounds, FractionProductInBounds, CrossProductsInBounds};
+    ghost use Rattle.poly_fraction.specs.Fractions.{sum_of_fractions, difference_of_fractions, product_of_fractions};
+    ghost use Rattle.poly_fraction.specs.Fractions.{AreSame, FractionSumInBounds, FractionProductInBounds, CrossProductsInBounds};
     ghost use Rattle.poly_fraction.specs.FractionAnswer.{GivesFraction, TellsInBounds};
     ghost use Rattle.poly_fraction.specs.FractionOf.{fraction_of};
 
