@@ -34,7 +34,7 @@ sed -i '/self.list.len() + other.list.len() <= 257/,/is_surely_in_bounds(alloc, 
 build untested
 
 exec python3 - "$work" <<'PY'
-import re, statistics, subprocess, sys, time
+import re, subprocess, sys, time
 
 work = sys.argv[1]
 ways = [("polys", "tested", "polys"), ("magnitudes", "untested", "polys"), ("numbers", "tested", "numbers"), ("free", "tested", "free")]
@@ -42,10 +42,14 @@ ways = [("polys", "tested", "polys"), ("magnitudes", "untested", "polys"), ("num
 def command(folder, way, count):
     return ["%s/%s/crates/products/out/products" % (work, folder), way, str(count)]
 
+# the least of nine runs, since a busy machine only adds to it
 def seconds(words):
-    start = time.perf_counter()
-    subprocess.run(words, check=True)
-    return time.perf_counter() - start
+    times = []
+    for _ in range(9):
+        start = time.perf_counter()
+        subprocess.run(words, check=True)
+        times.append(time.perf_counter() - start)
+    return min(times)
 
 def instructions(words):
     tool = ["valgrind", "--tool=callgrind", "--callgrind-out-file=/dev/null"]
@@ -54,10 +58,10 @@ def instructions(words):
 
 figures = {}
 for name, folder, way in ways:
-    times = [(seconds(command(folder, way, 20)) - seconds(command(folder, way, 0))) / 20 for _ in range(9)]
+    length = (seconds(command(folder, way, 20)) - seconds(command(folder, way, 0))) / 20
     counted = instructions(command(folder, way, 2)) - instructions(command(folder, way, 1))
-    figures[name] = (statistics.median(times), counted)
+    figures[name] = (length, counted)
 for name, (length, counted) in figures.items():
-    ratios = ["%.2f of %s" % (counted / figures[other][1], other) for other in ("numbers", "free")]
-    print("%-10s  %7.2f ms  %7.2f million instructions  (%s)" % (name, length * 1e3, counted / 1e6, ", ".join(ratios)))
+    ratios = ["%.2f and %.2f of %s" % (length / figures[other][0], counted / figures[other][1], other) for other in ("numbers", "free")]
+    print("%-10s  %6.2f ms  %6.2f million instructions  (%s)" % (name, length * 1e3, counted / 1e6, ", ".join(ratios)))
 PY

@@ -27,6 +27,11 @@ fn numbers_end_below_two_to_the_127(rt: HostRuntime) -> Result<(), RingFault> {
     let half = number(1 << 63)?;
     let greatest_power = number(1 << 126)?;
     assert_eq!(rt; half.mul(alloc, &half)?, greatest_power);
+    let least_of_64_bits = number(-(1 << 63))?;
+    assert_eq!(rt;
+        least_of_64_bits.mul(alloc, &least_of_64_bits)?,
+        greatest_power
+    );
     assert!(rt; number(1 << 64)?.mul(alloc, &half).is_err());
     assert!(rt; greatest_power.sub(alloc, &greatest_power).is_err());
     assert!(rt;

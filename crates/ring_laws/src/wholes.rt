@@ -1,6 +1,6 @@
 //! Whole numbers below 2^127 in magnitude, as a ring and a domain.
 
-ghost use Rattle.std.specs.Prelude.{◌≡◌, ◌<◌, ◌+◌, ◌*◌, ◌^◌, ◌+ℤ◌, ◌*ℤ◌, neg_ℤ, ◌↔◌, ⊤, pos, negsuc, ℤ, IsTrue, IsFalse, IsOk, refl, unsigned_abs, MatchOption};
+ghost use Rattle.std.specs.Prelude.{◌≡◌, ◌<◌, ◌+◌, ◌*◌, ◌^◌, ◌+ℤ◌, ◌*ℤ◌, neg_ℤ, ◌↔◌, ⊤, pos, negsuc, ℤ, IsTrue, IsFalse, IsOk, refl, unsigned_abs, MatchOption, IfSome};
 ghost use Rattle.std.specs.Result.{IsOkUnless};
 ghost use Rattle.ring_laws.specs.Meaning.{number};
 ghost use Rattle.ring_laws.specs.Answer.{Gives, GivesInBounds};
@@ -143,6 +143,9 @@ impl Ring for Whole {
             (number (self.now.value *ℤ other.now.value)) result }
         ensures no_memory { IsOkUnless result TooLarge }
     {
+        if let Some(product) = product_of_short(*self, *other) {
+            return Ok(product);
+        }
         match self.value.checked_mul(other.value) {
             Some(value) => match Whole::new(value) {
                 Some(product) => Ok(product),
@@ -166,6 +169,22 @@ fn is_sum_in_bounds(a: Whole, b: Whole) -> bool
     ensures test { IsTrue result ↔ (unsigned_abs a.value + unsigned_abs b.value < 2 ^ 127) }
 {
     a.value.unsigned_abs() + b.value.unsigned_abs() <= i128::MAX as u128
+}
+
+// The product of two numbers of 64 bits, which is always in bounds; none of longer ones.
+fn product_of_short(a: Whole, b: Whole) -> Option<Whole>
+    ensures in_bounds { IfSome result (λ _. unsigned_abs a.value * unsigned_abs b.value < 2 ^ 127) }
+    ensures product { IfSome result (λ product. product.value ≡ a.value *ℤ b.value) }
+{
+    let Ok(left) = i64::try_from(a.value) else {
+        return None;
+    };
+    let Ok(right) = i64::try_from(b.value) else {
+        return None;
+    };
+    Some(Whole {
+        value: i128::from(left) * i128::from(right),
+    })
 }
 
 impl Domain for Whole {
