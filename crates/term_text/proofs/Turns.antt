@@ -9,7 +9,8 @@ use Rattle.grammar.specs.Reading as r
 use Rattle.grammar.specs.Several.{Derivation, derivation_trees}
 use Rattle.grammar.specs.Several as g_kind
 use Rattle.grammar.specs.States as g
-use Rattle.grammar.proofs.TermKinds.{accepted, goes_on}
+use Rattle.grammar.proofs.TermKinds.{accepted}
+use Rattle.grammar.proofs.Follows.{goes_on}
 use Rattle.grammar.proofs.SmallLiterals.{AreSmall, small_tokens}
 use Rattle.grammar.proofs.Fitting.{run_snoc, open_snoc, fitting_start, fitting_more, fault_flawed, fault_nesting, fault_unexpected, fault_end, contents_at_end}
 use Rattle.term_text.specs.declared.state.Token.{Token}
