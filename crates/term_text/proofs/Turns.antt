@@ -19,15 +19,16 @@ use Rattle.term_text.specs.declared.front.Front.TheVariants as front
 use Rattle.term_text.specs.declared.fault.TextFault.{TextFault}
 use Rattle.term_text.specs.declared.fault.TextFault.TheVariants.{Unexpected, UnknownName, UnclosedParen, EmptyInput, NotAscii, Nesting, LiteralTooLarge, Memory}
 use Rattle.term_text.specs.declared.read.Progress.{Progress}
-use Rattle.term_text.specs.Steps.{is_empty}
-use Rattle.term_text.specs.Image.{token_image}
-use Rattle.term_text.specs.Fronts.{front_image, flaw_image}
+use Rattle.term_text.specs.Code.Steps.{is_empty}
+use Rattle.term_text.specs.Code.Image.{token_image}
+use Rattle.term_text.specs.Code.Fronts.{front_image, flaw_image}
 use Rattle.term_text.specs.View.{tree_of}
 use Rattle.term_text.specs.declared.several.Kind.{Kind}
 use Rattle.term_text.specs.declared.several.Contents.{Contents}
-use Rattle.term_text.specs.SeveralSteps.{whole_contents, step_several}
-use Rattle.term_text.specs.SeveralImage.{kind_of, several_image_of, contents, contents_of}
-use Rattle.term_text.specs.Progress.{HasFault, start, without_last, placed, is_opening, taken_state, taken, fault_of_flaw, last_of, end_fault, Fails, ended, places_image, IsAfter}
+use Rattle.term_text.specs.Code.SeveralSteps.{whole_contents, step_several}
+use Rattle.term_text.specs.Code.SeveralImage.{kind_of, several_image_of, contents, contents_of}
+use Rattle.term_text.specs.Answers.{HasFault}
+use Rattle.term_text.specs.Code.Progress.{start, without_last, placed, is_opening, taken_state, taken, fault_of_flaw, last_of, end_fault, Fails, ended, places_image, IsAfter}
 use Rattle.term_text.proofs.SeveralImages.{several_step, whole_contents_is}
 use Rattle.term_text.proofs.DerivationTrees.{contents_are}
 
