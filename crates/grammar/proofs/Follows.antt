@@ -1,14 +1,14 @@
 -- What the reader of a text takes in is its tokens, and it goes on only where the kind lets it.
-use Rattle.std.proofs.Common.{◌≡◌, ℕ, Bool, true, false, List, [], ◌∷◌, ◌++◌, Option, Some, None, refl, ap, sym, ◌∙◌, append-nil, subst}
-use Rattle.std.specs.Prelude.{is_some, option_and_then, if◌then◌else◌, nat_lt}
+use Rattle.std.proofs.Common.{◌≡◌, ℕ, Bool, true, false, List, [], ◌∷◌, ◌++◌, Option, Some, None, refl, ap, ◌∙◌, subst}
+use Rattle.std.specs.Prelude.{if◌then◌else◌, nat_lt}
 use Rattle.grammar.specs.Token.{Token, digits, name_n, name_k, name_binomial, plus, minus, star, slash, caret, bang, opening, closing, comma, semicolon, Placed}
 use Rattle.grammar.specs.Grammar.{Sum}
 use Rattle.grammar.specs.Bounds.{Bound, count}
-use Rattle.grammar.specs.Several.{Terms, terms_text, Derivation, only_terms, with_bounds, derivation_text, Kind, is_whole, Derives, Continues}
+use Rattle.grammar.specs.Several.{Terms, terms_text, Kind}
 use Rattle.grammar.specs.State.{State, begin, step, finished}
-use Rattle.grammar.specs.States.{Before, BeforeBound, BoundState, wants_bound, wants_digits, has_bound, States, in_term, in_bounds, start, with_term, with_bound, is_open, takes_bounds, at_semicolon, step_bounds, step_terms, run_terms, where_whole, finished_terms, before_text, states_text, GoesOn}
+use Rattle.grammar.specs.States.{Before, BeforeBound, BoundState, wants_bound, wants_digits, has_bound, States, in_term, in_bounds, start, with_term, with_bound, is_open, takes_bounds, at_semicolon, step_bounds, step_terms, run_terms, before_text, states_text, GoesOn}
 use Rattle.grammar.proofs.Prefixes.{some_of, none_some, step_grows, finished_text}
-use Rattle.grammar.proofs.Completions.{with_term_text, with_bound_text, completed}
+use Rattle.grammar.proofs.Completions.{with_term_text, with_bound_text}
 
 -- what a step takes in stands behind what was there, and goes on only where the kind lets it
 abbrev pub Follows : Kind → States → ℕ → Token → States → Type 0

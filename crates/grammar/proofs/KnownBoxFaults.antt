@@ -1,12 +1,10 @@
 -- The first faults of some texts of boxes.
-use Rattle.std.proofs.Common.{◌≡◌, ℕ, List, [], ◌∷◌, ◌++◌, refl, inr, pos}
-use Rattle.std.specs.Prelude.{codes, negsuc}
+use Rattle.std.proofs.Common.{◌≡◌, ℕ, List, [], ◌∷◌, ◌++◌, refl, inr}
+use Rattle.std.specs.Prelude.{codes}
 use Rattle.grammar.specs.Token.{digits, name_n, name_k, minus, opening, comma, semicolon, Placed}
-use Rattle.hypergeometric.specs.Tree.{tree, variable_n, variable_k}
-use Rattle.grammar.specs.Grammar.{product_alone, Product, power_alone, postfix_alone, Atom, atom_alone, the_n, the_k}
-use Rattle.grammar.specs.Bounds.{plain_bound, minus_bound, bound_alone, bound_more}
-use Rattle.grammar.specs.Reading.{IsFirstFault, HasContents, unexpected_at}
-use Rattle.grammar.specs.Several.{a_boxed, term_alone, term_more, with_bounds}
+use Rattle.grammar.specs.Grammar.{Product, power_alone, postfix_alone, Atom, atom_alone}
+use Rattle.grammar.specs.Reading.{IsFirstFault, unexpected_at}
+use Rattle.grammar.specs.Several.{a_boxed}
 use Rattle.grammar.proofs.TermKinds.{continues_where, not_continues, not_derived_where}
 use Rattle.grammar.proofs.KnownTexts.{nested_where}
 use Rattle.grammar.proofs.KnownBoxes.{box_tokens}

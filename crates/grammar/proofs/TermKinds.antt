@@ -1,13 +1,12 @@
 -- A prefix of a text of a kind is what its reader goes through.
-use Rattle.std.proofs.Common.{◌≡◌, ℕ, Bool, true, false, List, [], ◌∷◌, ◌++◌, Option, Some, None, refl, ap, sym, ◌∙◌, append-nil, subst}
-use Rattle.std.specs.Prelude.{is_some, option_and_then, if◌then◌else◌, nat_lt}
-use Rattle.grammar.specs.Token.{Token, digits, name_n, name_k, name_binomial, plus, minus, star, slash, caret, bang, opening, closing, comma, semicolon, Placed}
+use Rattle.std.proofs.Common.{◌≡◌, Bool, true, false, List, [], ◌∷◌, ◌++◌, Option, Some, None, refl, ap, sym, ◌∙◌, append-nil, subst}
+use Rattle.std.specs.Prelude.{is_some, option_and_then, if◌then◌else◌}
+use Rattle.grammar.specs.Token.{semicolon, Placed}
 use Rattle.grammar.specs.Grammar.{Sum}
-use Rattle.grammar.specs.Bounds.{Bound, count}
-use Rattle.grammar.specs.Several.{Terms, terms_text, Derivation, only_terms, with_bounds, derivation_text, Kind, is_whole, Derives, Continues}
-use Rattle.grammar.specs.State.{State, begin, step, finished}
-use Rattle.grammar.specs.States.{Before, BeforeBound, BoundState, wants_bound, wants_digits, has_bound, States, in_term, in_bounds, start, with_term, with_bound, is_open, takes_bounds, at_semicolon, step_bounds, step_terms, run_terms, where_whole, finished_terms, before_text, states_text, GoesOn}
-use Rattle.grammar.proofs.Prefixes.{some_of, none_some, step_grows, finished_text}
+use Rattle.grammar.specs.Several.{terms_text, Derivation, only_terms, with_bounds, derivation_text, Kind, is_whole, Derives, Continues}
+use Rattle.grammar.specs.State.{finished}
+use Rattle.grammar.specs.States.{wants_bound, wants_digits, has_bound, States, in_term, in_bounds, start, with_term, with_bound, step_terms, run_terms, where_whole, finished_terms, before_text, states_text}
+use Rattle.grammar.proofs.Prefixes.{some_of, none_some, finished_text}
 use Rattle.grammar.proofs.WholeTexts.{differ, derivation_read}
 use Rattle.grammar.proofs.Follows.{run_follows, goes_on}
 use Rattle.grammar.proofs.Completions.{with_term_text, with_bound_text, completed}
