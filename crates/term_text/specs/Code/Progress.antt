@@ -4,7 +4,6 @@ use Rattle.grammar.specs.Token as t
 use Rattle.grammar.specs.Reading as r
 use Rattle.grammar.specs.Several as k
 use Rattle.grammar.specs.States as g
-use Rattle.term_text.specs.declared.ast.Ast.{Ast}
 use Rattle.term_text.specs.declared.state.Token.{Token}
 use Rattle.term_text.specs.declared.state.Token.TheVariants as token
 use Rattle.term_text.specs.declared.front.Flaw.{Flaw}

@@ -77,9 +77,7 @@ fn faults(rt: HostRuntime) {
     for (text, fault) in table {
         assert!(rt; fault_of(&rt, text) == Some(fault));
     }
-    assert!(rt;
-        fault_of(&rt, [b'('; 64].as_slice()) == Some(TextFault::UnclosedParen { at: 63 })
-    );
+    assert!(rt; fault_of(&rt, [b'('; 64].as_slice()) == Some(TextFault::UnclosedParen { at: 63 }));
     assert!(rt; fault_of(&rt, [b'('; 65].as_slice()) == Some(TextFault::Nesting { at: 64 }));
 }
 
