@@ -2,7 +2,7 @@
 
 ghost use Rattle.std.specs.Prelude.{◌≡◌, ◌≤◌, ℕ, List, length, IfOk, IfErr};
 ghost use Rattle.grammar.specs.Several.{a_term};
-ghost use Rattle.term_text.specs.Progress.{HasFault};
+ghost use Rattle.term_text.specs.Answers.{HasFault};
 ghost use Rattle.ekhad_cli.specs.Refusals.{IsInside};
 ghost use Rattle.ekhad_cli.specs.Commands.{most_bytes, IsAnswerText, IsCause};
 

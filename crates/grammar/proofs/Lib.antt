@@ -4,6 +4,7 @@ pub mod Texts
 pub mod Several
 pub mod WholeTexts
 pub mod Completions
+pub mod Follows
 pub mod TermKinds
 pub mod Fitting
 pub mod OneOutcome
@@ -11,3 +12,4 @@ pub mod SmallLiterals
 pub mod KnownTexts
 pub mod KnownPlaces
 pub mod KnownBoxes
+pub mod KnownBoxFaults

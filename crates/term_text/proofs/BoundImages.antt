@@ -7,10 +7,10 @@ use Rattle.grammar.specs.Bounds.{Bound, plain_bound, minus_bound, Bounds, bound_
 use Rattle.grammar.specs.Several.{Terms, with_bounds}
 use Rattle.grammar.specs.States as m
 use Rattle.grammar.proofs.SmallLiterals.{AreSmall, past_bounds}
-use Rattle.term_text.specs.BoundSteps.{step_bounds, next_bound, whole_bounds}
-use Rattle.term_text.specs.SeveralSteps.{in_bounds, boxed_terms}
-use Rattle.term_text.specs.Image.{token_image}
-use Rattle.term_text.specs.SeveralImage.{terms_asts, bound_number, bounds_numbers, before_numbers, bounds_image, several_image_of, contents_of}
+use Rattle.term_text.specs.Code.BoundSteps.{step_bounds, next_bound, whole_bounds}
+use Rattle.term_text.specs.Code.SeveralSteps.{in_bounds, boxed_terms}
+use Rattle.term_text.specs.Code.Image.{token_image}
+use Rattle.term_text.specs.Code.SeveralImage.{terms_asts, bound_number, bounds_numbers, before_numbers, bounds_image, several_image_of, contents_of}
 use Rattle.term_text.proofs.Literals.{whole_value}
 
 count_is : (bs : Bounds) → length (bounds_numbers bs) ≡ count bs

@@ -6,8 +6,8 @@ use Rattle.grammar.specs.Bounds.{bounds_text}
 use Rattle.grammar.specs.Several.{Terms, term_alone, term_more, Derivation, only_terms, with_bounds, terms_text, derivation_text, terms_trees, derivation_trees, derivation_bounds}
 use Rattle.grammar.proofs.SmallLiterals.{AreSmall, past_terms}
 use Rattle.term_text.specs.declared.ast.Ast.{Ast}
-use Rattle.term_text.specs.Image.{sum_ast}
-use Rattle.term_text.specs.SeveralImage.{terms_asts, contents}
+use Rattle.term_text.specs.Code.Image.{sum_ast}
+use Rattle.term_text.specs.Code.SeveralImage.{terms_asts, contents}
 use Rattle.term_text.specs.View.{tree_of}
 use Rattle.term_text.proofs.Trees.{tree_of_sum}
 use Rattle.term_text.proofs.BoundImages.{numbers_are}

@@ -12,8 +12,8 @@ use Rattle.term_text.specs.declared.state.Outer.{Outer}
 use Rattle.term_text.specs.declared.state.Level.{Level}
 use Rattle.term_text.specs.declared.state.State.{State}
 use Rattle.term_text.specs.declared.state.Stage.TheVariants as stage
-use Rattle.term_text.specs.Steps.{part_at, is_empty, joined_product, joined_sum, filled, inner, step_atom, more_terms, more_factors, whole_sum, with_first, split_last, close_outer, comma_outer, step_closing, step_comma, step_bang, step_caret, step}
-use Rattle.term_text.specs.Image.{sum_ast, sum_part_asts, product_ast, product_part_asts, power_ast, atom_ast, terms_of, sum_at_of, subtracted_of, factors_of, product_at_of, divided_of, level_image, outer_image, stack_image, last_image, image, token_image, image_of}
+use Rattle.term_text.specs.Code.Steps.{part_at, is_empty, joined_product, joined_sum, filled, inner, step_atom, more_terms, more_factors, whole_sum, with_first, split_last, close_outer, comma_outer, step_closing, step_comma, step_bang, step_caret, step}
+use Rattle.term_text.specs.Code.Image.{sum_ast, sum_part_asts, product_ast, product_part_asts, power_ast, atom_ast, terms_of, sum_at_of, subtracted_of, factors_of, product_at_of, divided_of, level_image, outer_image, stack_image, last_image, image, token_image, image_of}
 
 pub split_last-snoc : (os : List Outer) (o : Outer) → split_last (os ++ o ∷ []) ≡ Some (os, o)
 split_last-snoc [] o = refl

@@ -11,10 +11,10 @@ use Rattle.std.specs.Char.{digit_value, is_ascii_digit, is_ascii_alphabetic, is_
 use Rattle.grammar.specs.Tokens.{front, name_token, token, flawed, literal_too_large, number_token}
 use Rattle.grammar.specs.Token.{digits}
 use Rattle.ring_laws.specs.declared.wholes.Whole.{Whole}
-use Rattle.term_text.specs.Literals.{whole_where, whole_of}
+use Rattle.term_text.specs.Code.Literals.{whole_where, whole_of}
 use Rattle.term_text.specs.declared.state.Token.TheVariants.{Digits}
 use Rattle.term_text.specs.declared.front.Front.TheVariants.{Token}
-use Rattle.term_text.specs.Fronts.{below_limit, front_image}
+use Rattle.term_text.specs.Code.Fronts.{below_limit, front_image}
 
 digit_is : (c : ℕ) → 48 ≤ c → c ≤ 57 → digit_value c ≡ c - 48
 digit_is c low high = grind (arith, nat_tests)

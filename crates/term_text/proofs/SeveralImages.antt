@@ -15,12 +15,12 @@ use Rattle.term_text.specs.declared.several.Kind.{Kind}
 use Rattle.term_text.specs.declared.several.Kind.TheVariants.{Term, Pair, Boxed, Recurrence}
 use Rattle.term_text.specs.declared.several.Now.TheVariants as now
 use Rattle.term_text.specs.declared.several.Several.{Several}
-use Rattle.term_text.specs.Steps.{is_empty}
-use Rattle.term_text.specs.Image.{sum_ast, power_ast, level_image, outer_image, stack_image, last_image, image, token_image, image_of}
-use Rattle.term_text.specs.BoundSteps.{no_bounds}
-use Rattle.term_text.specs.SeveralSteps as c
-use Rattle.term_text.specs.SeveralSteps.{whole_at, whole, with_last, with_now, step_several, begun, terms_alone, whole_contents}
-use Rattle.term_text.specs.SeveralImage.{kind_of, terms_asts, before_asts, several_image, several_image_of, contents_of}
+use Rattle.term_text.specs.Code.Steps.{is_empty}
+use Rattle.term_text.specs.Code.Image.{sum_ast, power_ast, level_image, outer_image, stack_image, last_image, image, token_image, image_of}
+use Rattle.term_text.specs.Code.BoundSteps.{no_bounds}
+use Rattle.term_text.specs.Code.SeveralSteps as c
+use Rattle.term_text.specs.Code.SeveralSteps.{whole_at, whole, with_last, with_now, step_several, begun, terms_alone, whole_contents}
+use Rattle.term_text.specs.Code.SeveralImage.{kind_of, terms_asts, before_asts, several_image, several_image_of, contents_of}
 use Rattle.term_text.proofs.Images.{step_image, whole_image, snoc_not_empty}
 use Rattle.term_text.proofs.BoundImages.{bounds_step, four_image}
 

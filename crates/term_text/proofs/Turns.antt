@@ -9,7 +9,8 @@ use Rattle.grammar.specs.Reading as r
 use Rattle.grammar.specs.Several.{Derivation, derivation_trees}
 use Rattle.grammar.specs.Several as g_kind
 use Rattle.grammar.specs.States as g
-use Rattle.grammar.proofs.TermKinds.{accepted, goes_on}
+use Rattle.grammar.proofs.TermKinds.{accepted}
+use Rattle.grammar.proofs.Follows.{goes_on}
 use Rattle.grammar.proofs.SmallLiterals.{AreSmall, small_tokens}
 use Rattle.grammar.proofs.Fitting.{run_snoc, open_snoc, fitting_start, fitting_more, fault_flawed, fault_nesting, fault_unexpected, fault_end, contents_at_end}
 use Rattle.term_text.specs.declared.state.Token.{Token}
@@ -18,15 +19,16 @@ use Rattle.term_text.specs.declared.front.Front.TheVariants as front
 use Rattle.term_text.specs.declared.fault.TextFault.{TextFault}
 use Rattle.term_text.specs.declared.fault.TextFault.TheVariants.{Unexpected, UnknownName, UnclosedParen, EmptyInput, NotAscii, Nesting, LiteralTooLarge, Memory}
 use Rattle.term_text.specs.declared.read.Progress.{Progress}
-use Rattle.term_text.specs.Steps.{is_empty}
-use Rattle.term_text.specs.Image.{token_image}
-use Rattle.term_text.specs.Fronts.{front_image, flaw_image}
+use Rattle.term_text.specs.Code.Steps.{is_empty}
+use Rattle.term_text.specs.Code.Image.{token_image}
+use Rattle.term_text.specs.Code.Fronts.{front_image, flaw_image}
 use Rattle.term_text.specs.View.{tree_of}
 use Rattle.term_text.specs.declared.several.Kind.{Kind}
 use Rattle.term_text.specs.declared.several.Contents.{Contents}
-use Rattle.term_text.specs.SeveralSteps.{whole_contents, step_several}
-use Rattle.term_text.specs.SeveralImage.{kind_of, several_image_of, contents, contents_of}
-use Rattle.term_text.specs.Progress.{HasFault, start, without_last, placed, is_opening, taken_state, taken, fault_of_flaw, last_of, end_fault, Fails, ended, places_image, IsAfter}
+use Rattle.term_text.specs.Code.SeveralSteps.{whole_contents, step_several}
+use Rattle.term_text.specs.Code.SeveralImage.{kind_of, several_image_of, contents, contents_of}
+use Rattle.term_text.specs.Answers.{HasFault}
+use Rattle.term_text.specs.Code.Progress.{start, without_last, placed, is_opening, taken_state, taken, fault_of_flaw, last_of, end_fault, Fails, ended, places_image, IsAfter}
 use Rattle.term_text.proofs.SeveralImages.{several_step, whole_contents_is}
 use Rattle.term_text.proofs.DerivationTrees.{contents_are}
 

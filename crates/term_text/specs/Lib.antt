@@ -1,9 +1,3 @@
 pub mod View
-pub mod Literals
-pub mod Steps
-pub mod Image
-pub mod BoundSteps
-pub mod SeveralSteps
-pub mod SeveralImage
-pub mod Fronts
-pub mod Progress
+pub mod Answers
+pub mod Code

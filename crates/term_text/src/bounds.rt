@@ -1,6 +1,6 @@
 //! The bounds of a box, token by token.
 ghost use Rattle.std.specs.Prelude.{◌≡◌, ◌∷◌, [], IfOk, length};
-ghost use Rattle.term_text.specs.BoundSteps.{no_bounds, with_bound, next_bound, step_bounds, whole_bounds};
+ghost use Rattle.term_text.specs.Code.BoundSteps.{no_bounds, with_bound, next_bound, step_bounds, whole_bounds};
 
 use crate::state::Token;
 use sqlite_items::Items;

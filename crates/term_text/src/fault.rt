@@ -17,7 +17,7 @@ pub enum TextFault {
     #[error("unknown name at {at}")]
     UnknownName { at: u32 },
     /// The end of the text, where more is needed: the last parenthesis that is open.
-    #[error("unclosed parenthesis at {at}")]
+    #[error("unclosed at {at}")]
     UnclosedParen { at: u32 },
     /// No token at all.
     #[error("empty input")]

@@ -3,8 +3,8 @@ ghost use Rattle.std.specs.Prelude.{◌≡◌, ◌≤◌, ◌<◌, ◌+◌, ◌^
 ghost use Rattle.std.specs.List.{prefix_len};
 ghost use Rattle.std.specs.Str.Parse.{AllDigits, digits_value};
 ghost use Rattle.grammar.specs.Tokens.{past_spaces, front, name_token, number_token, symbol_token};
-ghost use Rattle.term_text.specs.Literals.{whole_of};
-ghost use Rattle.term_text.specs.Fronts.{in_class, front_image, below_limit, IfToken};
+ghost use Rattle.term_text.specs.Code.Literals.{whole_of};
+ghost use Rattle.term_text.specs.Code.Fronts.{in_class, front_image, below_limit, IfToken};
 
 use crate::state::Token;
 use ring_laws::Whole;
@@ -35,7 +35,7 @@ enum Class {
 
 impl Class {
     fn has(self, byte: u8) -> bool
-        ensures { result ≡ in_class self byte }
+        ensures has { result ≡ in_class self byte }
     {
         match self {
             Class::Space => byte == b' ' || byte == b'\t' || byte == b'\r' || byte == b'\n',

@@ -2,8 +2,9 @@
 ghost use Rattle.std.specs.Prelude.{◌≡◌, [], ◌∷◌, ◌≤◌, ◌<◌, ◌^◌, length, IfOk, IfErr, Some, None, ℕ, List};
 ghost use Rattle.grammar.specs.Token.{Placed};
 ghost use Rattle.grammar.specs.Several.{a_recurrence};
-ghost use Rattle.term_text.specs.SeveralImage.{kind_of};
-ghost use Rattle.term_text.specs.Progress.{start, placed, taken, Gives, fault_of_flaw, end_fault, ended, IsAfter, IsTurn, ReadsContents, ReadsTerms, ReadsTerm, ReadsPair, ReadsBoxed};
+ghost use Rattle.term_text.specs.Code.SeveralImage.{kind_of};
+ghost use Rattle.term_text.specs.Answers.{ReadsTerms, ReadsTerm, ReadsPair, ReadsBoxed};
+ghost use Rattle.term_text.specs.Code.Progress.{start, placed, taken, Gives, fault_of_flaw, end_fault, ended, IsAfter, IsTurn, ReadsContents};
 
 use crate::ast::Ast;
 use crate::bounds::{BoxRange, range_of};
@@ -28,7 +29,7 @@ struct Progress {
 }
 
 fn start(alloc: Global) -> Progress
-    ensures { result ≡ start }
+    ensures start { result ≡ start }
 {
     let several = Several {
         before: Items::new(alloc),
@@ -44,7 +45,7 @@ fn start(alloc: Global) -> Progress
 
 /// The places of the open parentheses behind a token.
 fn placed(places: Places, token: Token, at: u32) -> Result<Places, AllocError>
-    ensures { IfOk result (λ r. r ≡ placed places token at) }
+    ensures placed { IfOk result (λ r. r ≡ placed places token at) }
 {
     let mut places = places;
     match token {
@@ -66,7 +67,7 @@ fn taken(
     at: u32,
     end: usize,
 ) -> Result<Progress, TextFault>
-    ensures { Gives result (taken kind progress token at end) }
+    ensures taken { Gives result (taken kind progress token at end) }
 {
     let Progress {
         from: _,
@@ -90,7 +91,7 @@ fn taken(
 }
 
 fn fault_of_flaw(flaw: Flaw, at: u32) -> TextFault
-    ensures { result ≡ fault_of_flaw flaw at }
+    ensures fault { result ≡ fault_of_flaw flaw at }
 {
     match flaw {
         Flaw::Strange => TextFault::Unexpected { at },
@@ -102,7 +103,7 @@ fn fault_of_flaw(flaw: Flaw, at: u32) -> TextFault
 
 /// The fault of an end where more is needed.
 fn end_fault(places: Places, empty: bool, len: u32) -> TextFault
-    ensures { result ≡ end_fault places empty len }
+    ensures fault { result ≡ end_fault places empty len }
 {
     if empty {
         return TextFault::EmptyInput;
@@ -116,7 +117,7 @@ fn end_fault(places: Places, empty: bool, len: u32) -> TextFault
 
 // The trees and bounds, where the text may end here, or the fault of its end.
 fn ended(alloc: Global, kind: Kind, progress: Progress, len: u32) -> Result<Contents, TextFault>
-    ensures { Gives result (ended kind progress len) }
+    ensures ended { Gives result (ended kind progress len) }
 {
     let Progress {
         from: _,
@@ -141,7 +142,7 @@ enum Turn {
 fn next_turn(alloc: Global, kind: Kind, text: &[u8], progress: Progress) -> Result<Turn, TextFault>
     requires short { length text.now ≤ 65536 }
     requires within { progress.from ≤ length text.now }
-    ensures { (ts : List Placed) → IsAfter (kind_of kind) text.now progress ts → IsTurn (kind_of kind) text.now progress result }
+    ensures turn { (ts : List Placed) → IsAfter (kind_of kind) text.now progress ts → IsTurn (kind_of kind) text.now progress result }
 {
     let at = past_spaces(text, progress.from);
     match front_at(text, at) {
@@ -242,241 +243,4 @@ pub fn read_recurrence(alloc: Global, text: &[u8]) -> Result<Items<Ast>, TextFau
 }
 
 #[cfg(test)]
-mod tests {
-    use super::*;
-    use crate::ast::Node;
-
-    // The fault of a text, or nothing where it has a tree.
-    fn fault_of(rt: &HostRuntime, text: &[u8]) -> Option<TextFault> {
-        if text.len() > 65536 {
-            return None;
-        }
-        match read_term(rt.alloc(), text) {
-            Ok(_) => None,
-            Err(fault) => Some(fault),
-        }
-    }
-
-    // Where the tree of a text stands.
-    fn place_of(rt: &HostRuntime, text: &[u8]) -> Option<u32> {
-        if text.len() > 65536 {
-            return None;
-        }
-        match read_term(rt.alloc(), text) {
-            Ok(ast) => Some(ast.at),
-            Err(_) => None,
-        }
-    }
-
-    #[test]
-    fn single_bytes(rt: HostRuntime) {
-        for byte in 0..=255_u8 {
-            let fault = match byte {
-                b' ' | b'\t' | b'\r' | b'\n' => Some(TextFault::EmptyInput),
-                b'n' | b'k' | b'0'..=b'9' => None,
-                b'a'..=b'z' | b'A'..=b'Z' => Some(TextFault::UnknownName { at: 0 }),
-                b'(' => Some(TextFault::UnclosedParen { at: 0 }),
-                b'-' => Some(TextFault::Unexpected { at: 1 }),
-                128..=255 => Some(TextFault::NotAscii { at: 0 }),
-                _ => Some(TextFault::Unexpected { at: 0 }),
-            };
-            assert!(rt; fault_of(&rt, [byte].as_slice()) == fault);
-        }
-    }
-
-    #[test]
-    fn faults(rt: HostRuntime) {
-        let table: [(&[u8], TextFault); 20] = [
-            (b"", TextFault::EmptyInput),
-            (b"k!!", TextFault::Unexpected { at: 2 }),
-            (b"k!x", TextFault::UnknownName { at: 2 }),
-            (b"k(", TextFault::Unexpected { at: 1 }),
-            (b"k^2^3", TextFault::Unexpected { at: 3 }),
-            (b"2*-k", TextFault::Unexpected { at: 2 }),
-            (b"- -k", TextFault::Unexpected { at: 2 }),
-            (b"k+", TextFault::Unexpected { at: 2 }),
-            (b"(k)(", TextFault::Unexpected { at: 3 }),
-            (b"(k+(n)", TextFault::UnclosedParen { at: 0 }),
-            (b"((k+(n)", TextFault::UnclosedParen { at: 1 }),
-            (b"k;n", TextFault::Unexpected { at: 1 }),
-            (b"binomial(n,k", TextFault::UnclosedParen { at: 8 }),
-            (b"binomial n", TextFault::Unexpected { at: 9 }),
-            (b"binomial(n)", TextFault::Unexpected { at: 10 }),
-            (b"binomialx", TextFault::UnknownName { at: 0 }),
-            (b"n1", TextFault::UnknownName { at: 0 }),
-            (
-                b"k+170141183460469231731687303715884105728",
-                TextFault::LiteralTooLarge { at: 2 },
-            ),
-            (
-                b"((((((((((((((((((((((((((((((((((((((((((((((((((((((((((((((((k(",
-                TextFault::Nesting { at: 65 },
-            ),
-            (
-                b"((((((((((((((((((((((((((((((((((((((((((((((((((((((((((((((((binomial(",
-                TextFault::Nesting { at: 72 },
-            ),
-        ];
-        for (text, fault) in table {
-            assert!(rt; fault_of(&rt, text) == Some(fault));
-        }
-        assert!(rt;
-            fault_of(&rt, [b'('; 64].as_slice()) == Some(TextFault::UnclosedParen { at: 63 })
-        );
-        assert!(rt; fault_of(&rt, [b'('; 65].as_slice()) == Some(TextFault::Nesting { at: 64 }));
-    }
-
-    #[test]
-    fn places(rt: HostRuntime) {
-        let table: [(&[u8], u32); 10] = [
-            (b"k^2", 1),
-            (b"-n+k", 0),
-            (b"n+k-n", 1),
-            (b"n*k/2", 1),
-            (b"(-k)", 1),
-            (b"((k))", 2),
-            (b" k!^2", 3),
-            (b"k*n!", 1),
-            (b"binomial ( n , k )", 0),
-            (b"000170141183460469231731687303715884105727", 0),
-        ];
-        for (text, at) in table {
-            assert!(rt; place_of(&rt, text) == Some(at));
-        }
-    }
-
-    #[test]
-    fn literals(rt: HostRuntime) {
-        match read_term(
-            rt.alloc(),
-            b"170141183460469231731687303715884105727".as_slice(),
-        ) {
-            Ok(
-                Ast {
-                    at: _,
-                    node: Node::Literal(whole),
-                },
-            ) => assert!(rt; whole.value() == i128::MAX),
-            _ => assert!(rt; false),
-        }
-    }
-
-    // The longest text: a space and 32,768 times k.
-    #[test]
-    fn longest_sum(rt: HostRuntime) -> Result<(), AllocError> {
-        let mut text = Vec::new(rt.alloc());
-        text.extend_from_slice(b" k".as_slice())?;
-        for _ in 0..32767 {
-            text.extend_from_slice(b"+k".as_slice())?;
-        }
-        assert!(rt; place_of(&rt, text.as_slice()) == Some(2));
-        Ok(())
-    }
-
-    // Whether a tree is this variable at this place.
-    fn is_variable(ast: &Ast, name: u8, at: u32) -> bool {
-        match &ast.node {
-            Node::N => name == b'n' && ast.at == at,
-            Node::K => name == b'k' && ast.at == at,
-            _ => false,
-        }
-    }
-
-    #[test]
-    fn pairs(rt: HostRuntime) {
-        match read_pair(rt.alloc(), b"k;n".as_slice()) {
-            Ok((first, last)) => {
-                assert!(rt; is_variable(&first, b'k', 0));
-                assert!(rt; is_variable(&last, b'n', 2));
-            }
-            Err(_) => assert!(rt; false),
-        }
-        let one = read_pair(rt.alloc(), b"k".as_slice());
-        assert!(rt; matches!(one, Err(TextFault::Unexpected { at: 1 })));
-        let three = read_pair(rt.alloc(), b"k;n;k".as_slice());
-        assert!(rt; matches!(three, Err(TextFault::Unexpected { at: 3 })));
-        let open = read_pair(rt.alloc(), b"k;(n".as_slice());
-        assert!(rt; matches!(open, Err(TextFault::UnclosedParen { at: 2 })));
-        let inner = read_pair(rt.alloc(), b"(k;n)".as_slice());
-        assert!(rt; matches!(inner, Err(TextFault::Unexpected { at: 2 })));
-    }
-
-    // The range of the bounds of a box, whose terms are k and n at 0 and 2, or its fault.
-    fn range_of(rt: &HostRuntime, text: &[u8]) -> Result<BoxRange, TextFault> {
-        if text.len() > 65536 {
-            return Err(TextFault::EmptyInput);
-        }
-        match read_boxed(rt.alloc(), text) {
-            Ok((first, last, range)) => {
-                if is_variable(&first, b'k', 0) && is_variable(&last, b'n', 2) {
-                    Ok(range)
-                } else {
-                    Err(TextFault::EmptyInput)
-                }
-            }
-            Err(fault) => Err(fault),
-        }
-    }
-
-    fn range(n0: i128, n1: i128, k0: i128, k1: i128) -> BoxRange {
-        BoxRange { n0, n1, k0, k1 }
-    }
-
-    #[test]
-    fn boxes(rt: HostRuntime) {
-        let table: [(&[u8], BoxRange); 4] = [
-            (b"k;n;0,1,-2,3", range(0, 1, -2, 3)),
-            (b"k;n;0,1,- 2,3", range(0, 1, -2, 3)),
-            (b"k;n ; - 0 , 007, - 00 , 3 ", range(0, 7, 0, 3)),
-            (
-                b"k;n;-170141183460469231731687303715884105727,0,0,000170141183460469231731687303715884105727",
-                range(-i128::MAX, 0, 0, i128::MAX),
-            ),
-        ];
-        for (text, wanted) in table {
-            assert!(rt; range_of(&rt, text) == Ok(wanted));
-        }
-    }
-
-    #[test]
-    fn faults_of_boxes(rt: HostRuntime) {
-        let table: [(&[u8], TextFault); 15] = [
-            (b"k;n", TextFault::Unexpected { at: 3 }),
-            (b"k;n;", TextFault::Unexpected { at: 4 }),
-            (b"k;n;--2,0,0,0", TextFault::Unexpected { at: 5 }),
-            (b"k;n;0,1,2", TextFault::Unexpected { at: 9 }),
-            (b"k;n;0,1,2,", TextFault::Unexpected { at: 10 }),
-            (b"k;n;0,1,,3", TextFault::Unexpected { at: 8 }),
-            (b"k;n;0,1,2,3,4", TextFault::Unexpected { at: 11 }),
-            (b"k;n;0,1,2,-", TextFault::Unexpected { at: 11 }),
-            (b"k;n;(0),1,2,3", TextFault::Unexpected { at: 4 }),
-            (b"k;n;0;1,2,3", TextFault::Unexpected { at: 5 }),
-            (b"k;n;k,1,2,3", TextFault::Unexpected { at: 4 }),
-            (b"k;n;1+1,1,2,3", TextFault::Unexpected { at: 5 }),
-            (b"k;(n;0,1,2,3", TextFault::Unexpected { at: 4 }),
-            (
-                b"k;n;0,- 170141183460469231731687303715884105728,2,3",
-                TextFault::LiteralTooLarge { at: 8 },
-            ),
-            (
-                b"k;n;0,1,2,000170141183460469231731687303715884105728",
-                TextFault::LiteralTooLarge { at: 10 },
-            ),
-        ];
-        for (text, fault) in table {
-            assert!(rt; range_of(&rt, text) == Err(fault));
-        }
-    }
-
-    #[test]
-    fn recurrences(rt: HostRuntime) {
-        match read_recurrence(rt.alloc(), b"n;1;n^2".as_slice()) {
-            Ok(terms) => assert!(rt; terms.len() == 3),
-            Err(_) => assert!(rt; false),
-        }
-        let one = read_recurrence(rt.alloc(), b"k".as_slice());
-        assert!(rt; matches!(one, Err(TextFault::Unexpected { at: 1 })));
-        let ended = read_recurrence(rt.alloc(), b"k;n;".as_slice());
-        assert!(rt; matches!(ended, Err(TextFault::Unexpected { at: 4 })));
-    }
-}
+mod tests;

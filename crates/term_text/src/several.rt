@@ -1,6 +1,6 @@
 //! What a reader of a text has taken in: its terms, and the bounds behind them.
 ghost use Rattle.std.specs.Prelude.{◌≡◌, ◌++◌, ◌∷◌, [], IfOk, Some, None};
-ghost use Rattle.term_text.specs.SeveralSteps.{begin, is_open, takes_bounds, is_whole, whole, with_last, only_terms, whole_contents, next_term, first_bound, next_part, step_term, step_several};
+ghost use Rattle.term_text.specs.Code.SeveralSteps.{begin, is_open, takes_bounds, is_whole, whole, with_last, only_terms, whole_contents, next_term, first_bound, next_part, step_term, step_several};
 
 use crate::ast::Ast;
 use crate::bounds::{Bounds, no_bounds};

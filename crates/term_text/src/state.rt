@@ -1,6 +1,6 @@
 //! What a reader has taken in, token by token.
 ghost use Rattle.std.specs.Prelude.{◌≡◌, [], ◌∷◌, ◌++◌, IfOk, List, Some, None};
-ghost use Rattle.term_text.specs.Steps.{joined_product, joined_sum, filled, empty_level, inner, negated, step_atom, more_terms, more_factors, whole_sum, split_last, close_outer, comma_outer, step_closing, step_comma, step_bang, step_caret, step_more, step_stage, step};
+ghost use Rattle.term_text.specs.Code.Steps.{joined_product, joined_sum, filled, empty_level, inner, negated, step_atom, more_terms, more_factors, whole_sum, split_last, close_outer, comma_outer, step_closing, step_comma, step_bang, step_caret, step_more, step_stage, step};
 
 use crate::ast::{Ast, Node, Part};
 use ring_laws::Whole;
@@ -83,7 +83,7 @@ pub struct State {
 
 /// The product that a power ends.
 fn joined_product(factors: Items<Part>, at: u32, divided: bool, ast: Ast) -> Result<Ast, AllocError>
-    ensures { IfOk result (λ a. a ≡ joined_product factors at divided ast) }
+    ensures product { IfOk result (λ a. a ≡ joined_product factors at divided ast) }
 {
     if factors.is_empty() {
         return Ok(ast);
@@ -101,7 +101,7 @@ fn joined_product(factors: Items<Part>, at: u32, divided: bool, ast: Ast) -> Res
 
 /// The sum that a product ends.
 fn joined_sum(terms: Items<Part>, at: u32, subtracted: bool, ast: Ast) -> Result<Ast, AllocError>
-    ensures { IfOk result (λ a. a ≡ joined_sum terms at subtracted ast) }
+    ensures joined { IfOk result (λ a. a ≡ joined_sum terms at subtracted ast) }
 {
     if terms.is_empty() && !subtracted {
         return Ok(ast);
@@ -119,7 +119,7 @@ fn joined_sum(terms: Items<Part>, at: u32, subtracted: bool, ast: Ast) -> Result
 
 /// An atom stands where one may.
 fn filled(alloc: Global, level: Level, outer: Items<Outer>, ast: Ast) -> Result<State, AllocError>
-    ensures { IfOk result (λ s. s ≡ filled level outer ast) }
+    ensures filled { IfOk result (λ s. s ≡ filled level outer ast) }
 {
     let Level {
         terms,
@@ -157,7 +157,7 @@ fn filled(alloc: Global, level: Level, outer: Items<Outer>, ast: Ast) -> Result<
 }
 
 pub fn empty_level(alloc: Global) -> Level
-    ensures { result ≡ empty_level }
+    ensures empty { result ≡ empty_level }
 {
     Level {
         terms: Items::new(alloc),
@@ -177,7 +177,7 @@ fn inner(
     opened: Opened,
     outer: Items<Outer>,
 ) -> Result<State, AllocError>
-    ensures { IfOk result (λ s. s ≡ inner level opened outer) }
+    ensures inner { IfOk result (λ s. s ≡ inner level opened outer) }
 {
     let mut outer = outer;
     outer.push(Outer { level, opened })?;
@@ -190,7 +190,7 @@ fn inner(
 
 // The level whose sum begins with a minus, where nothing stands there yet.
 fn negated(level: Level, at: u32) -> Option<Level>
-    ensures { result ≡ negated level at }
+    ensures negated { result ≡ negated level at }
 {
     let Level {
         terms,
@@ -222,7 +222,7 @@ fn step_atom(
     token: Token,
     at: u32,
 ) -> Result<Option<State>, AllocError>
-    ensures { IfOk result (λ s. s ≡ step_atom level outer token at) }
+    ensures step { IfOk result (λ s. s ≡ step_atom level outer token at) }
 {
     match token {
         Token::Digits(value) => Ok(Some(filled(
@@ -261,7 +261,7 @@ fn more_terms(
     at: u32,
     subtracted: bool,
 ) -> Result<Level, AllocError>
-    ensures { IfOk result (λ l. l ≡ more_terms level ast at subtracted) }
+    ensures level { IfOk result (λ l. l ≡ more_terms level ast at subtracted) }
 {
     let Level {
         terms,
@@ -295,7 +295,7 @@ fn more_terms(
 }
 
 fn more_factors(level: Level, ast: Ast, at: u32, divided: bool) -> Result<Level, AllocError>
-    ensures { IfOk result (λ l. l ≡ more_factors level ast at divided) }
+    ensures level { IfOk result (λ l. l ≡ more_factors level ast at divided) }
 {
     let Level {
         terms,
@@ -321,7 +321,7 @@ fn more_factors(level: Level, ast: Ast, at: u32, divided: bool) -> Result<Level,
 }
 
 pub fn whole_sum(level: Level, ast: Ast) -> Result<Ast, AllocError>
-    ensures { IfOk result (λ a. a ≡ whole_sum level ast) }
+    ensures whole { IfOk result (λ a. a ≡ whole_sum level ast) }
 {
     let Level {
         terms,
@@ -338,7 +338,7 @@ pub fn whole_sum(level: Level, ast: Ast) -> Result<Ast, AllocError>
 
 /// All but the innermost, and the innermost.
 fn split_last(outer: Items<Outer>) -> Option<(Items<Outer>, Outer)>
-    ensures { result ≡ split_last outer }
+    ensures split { result ≡ split_last outer }
 {
     let mut outer = outer;
     match outer.pop() {
@@ -353,7 +353,7 @@ fn step_closing(
     outer: Items<Outer>,
     ast: Ast,
 ) -> Result<Option<State>, AllocError>
-    ensures { IfOk result (λ s. s ≡ step_closing level outer ast) }
+    ensures step { IfOk result (λ s. s ≡ step_closing level outer ast) }
 {
     match split_last(outer) {
         None => Ok(None),
@@ -386,7 +386,7 @@ fn step_comma(
     outer: Items<Outer>,
     ast: Ast,
 ) -> Result<Option<State>, AllocError>
-    ensures { IfOk result (λ s. s ≡ step_comma level outer ast) }
+    ensures step { IfOk result (λ s. s ≡ step_comma level outer ast) }
 {
     match split_last(outer) {
         None => Ok(None),
@@ -417,7 +417,7 @@ fn step_bang(
     last: Last,
     at: u32,
 ) -> Result<Option<State>, AllocError>
-    ensures { IfOk result (λ s. s ≡ step_bang level outer ast last at) }
+    ensures step { IfOk result (λ s. s ≡ step_bang level outer ast last at) }
 {
     match last {
         Last::Atom => {
@@ -436,7 +436,7 @@ fn step_bang(
 }
 
 fn step_caret(level: Level, outer: Items<Outer>, ast: Ast, last: Last, at: u32) -> Option<State>
-    ensures { result ≡ step_caret level outer ast last at }
+    ensures step { result ≡ step_caret level outer ast last at }
 {
     match last {
         Last::Atom | Last::Bang => {
@@ -478,7 +478,7 @@ fn step_more(
     token: Token,
     at: u32,
 ) -> Result<Option<State>, AllocError>
-    ensures { IfOk result (λ s. s ≡ step_more level outer ast last token at) }
+    ensures step { IfOk result (λ s. s ≡ step_more level outer ast last token at) }
 {
     match token {
         Token::Plus => Ok(Some(State {
@@ -512,7 +512,7 @@ fn step_more(
 impl State {
     /// The state behind one more token, where it may stand there.
     pub fn step(self, alloc: Global, token: Token, at: u32) -> Result<Option<State>, AllocError>
-        ensures { IfOk result (λ s. s ≡ step self token at) }
+        ensures step { IfOk result (λ s. s ≡ step self token at) }
     {
         let State {
             stage,

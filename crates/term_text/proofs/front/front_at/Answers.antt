@@ -1,5 +1,5 @@
 use Rattle.std.proofs.Common.{ap, sym, arith, ◌∙◌}
-use Rattle.term_text.specs.Fronts.{front_image}
+use Rattle.term_text.specs.Code.Fronts.{front_image}
 use Rattle.term_text.proofs.Literals.{digits_run, name_run}
 use Rattle.term_text.proofs.front.front_at.Goals as goal
 

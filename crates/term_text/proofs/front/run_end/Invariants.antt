@@ -1,6 +1,6 @@
 use Rattle.std.proofs.Common.{length, ◌-◌, ◌+◌, ◌≡◌, ◌≤◌, drop}
 use Rattle.std.specs.List.{prefix_len}
-use Rattle.term_text.specs.Fronts.{in_class}
+use Rattle.term_text.specs.Code.Fronts.{in_class}
 use Rattle.term_text.proofs.front.run_end.Given as goal
 
 abbrev pub invariant-loop-end : goal.invariant-loop-end

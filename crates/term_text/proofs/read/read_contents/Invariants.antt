@@ -1,7 +1,7 @@
-use Rattle.term_text.specs.SeveralImage.{kind_of}
+use Rattle.term_text.specs.Code.SeveralImage.{kind_of}
 use Rattle.std.proofs.Common.{length, ◌-◌, ◌≤◌, List}
 use Rattle.grammar.specs.Token.{Placed}
-use Rattle.term_text.specs.Progress.{IsAfter}
+use Rattle.term_text.specs.Code.Progress.{IsAfter}
 use Rattle.term_text.proofs.read.read_contents.Given as goal
 
 abbrev pub invariant-loop-contents : goal.invariant-loop-contents

@@ -15,8 +15,8 @@ use Rattle.term_text.specs.declared.several.Now.TheVariants as now
 use Rattle.term_text.specs.declared.several.Several.{Several}
 use Rattle.term_text.specs.declared.several.Contents.{Contents}
 use Rattle.term_text.specs.declared.bounds.Bounds.{Bounds}
-use Rattle.term_text.specs.BoundSteps.{no_bounds, step_bounds, whole_bounds}
-use Rattle.term_text.specs.Steps.{is_empty, empty_level, whole_sum, step}
+use Rattle.term_text.specs.Code.BoundSteps.{no_bounds, step_bounds, whole_bounds}
+use Rattle.term_text.specs.Code.Steps.{is_empty, empty_level, whole_sum, step}
 
 abbrev pub begin : State
 begin = record { stage = stage.Atom; level = empty_level; outer = [] }

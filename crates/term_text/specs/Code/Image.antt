@@ -17,8 +17,8 @@ use Rattle.term_text.specs.declared.state.Last.{Last}
 use Rattle.term_text.specs.declared.state.Last.TheVariants as last
 use Rattle.term_text.specs.declared.state.Stage.TheVariants as stage
 use Rattle.term_text.specs.declared.state.State.{State}
-use Rattle.term_text.specs.Literals.{whole_of}
-use Rattle.term_text.specs.Steps.{part_at}
+use Rattle.term_text.specs.Code.Literals.{whole_of}
+use Rattle.term_text.specs.Code.Steps.{part_at}
 
 abbrev mutual
   pub sum_ast : Sum → Ast

@@ -12,8 +12,8 @@ use Rattle.term_text.specs.declared.several.Kind.TheVariants.{Term, Pair, Boxed,
 use Rattle.term_text.specs.declared.several.Now.TheVariants as now
 use Rattle.term_text.specs.declared.several.Several.{Several}
 use Rattle.term_text.specs.declared.several.Contents.{Contents}
-use Rattle.term_text.specs.Literals.{whole_of}
-use Rattle.term_text.specs.Image.{sum_ast, image}
+use Rattle.term_text.specs.Code.Literals.{whole_of}
+use Rattle.term_text.specs.Code.Image.{sum_ast, image}
 
 abbrev pub kind_of : Kind → g.Kind
 kind_of Term = g.a_term

@@ -1,10 +1,9 @@
--- How far a text of a kind is read, and what reading gives.
+-- How far a text of a kind is read.
 use Rattle.std.specs.Prelude.{ℕ, Bool, true, false, ◌&&◌, ◌==◌, ◌-◌, ◌≡◌, ◌≤◌, ◌<◌, List, [], ◌∷◌, ◌++◌, length, take, map, Option, Some, None, Result, Ok, Err, if◌then◌else◌}
 use Rattle.grammar.specs.Token as t
 use Rattle.grammar.specs.Reading as r
 use Rattle.grammar.specs.Several as k
 use Rattle.grammar.specs.States as g
-use Rattle.term_text.specs.declared.ast.Ast.{Ast}
 use Rattle.term_text.specs.declared.state.Token.{Token}
 use Rattle.term_text.specs.declared.state.Token.TheVariants as token
 use Rattle.term_text.specs.declared.front.Flaw.{Flaw}
@@ -14,44 +13,15 @@ use Rattle.term_text.specs.declared.fault.TextFault.TheVariants.{Unexpected, Unk
 use Rattle.term_text.specs.declared.read.Progress.{Progress}
 use Rattle.term_text.specs.declared.read.Turn.{Turn}
 use Rattle.term_text.specs.declared.read.Turn.TheVariants as turn
-use Rattle.term_text.specs.Steps.{is_empty}
-use Rattle.term_text.specs.SeveralSteps.{begin, whole_contents, step_several}
-use Rattle.term_text.specs.SeveralImage.{several_image}
+use Rattle.term_text.specs.Code.Steps.{is_empty}
+use Rattle.term_text.specs.Code.SeveralSteps.{begin, whole_contents, step_several}
+use Rattle.term_text.specs.Code.SeveralImage.{several_image}
 use Rattle.term_text.specs.declared.several.Kind.{Kind}
 use Rattle.term_text.specs.declared.several.Now.TheVariants.{Term}
 use Rattle.term_text.specs.declared.several.Several.{Several}
 use Rattle.term_text.specs.declared.several.Contents.{Contents}
-use Rattle.term_text.specs.declared.bounds.BoxRange.{BoxRange}
 use Rattle.term_text.specs.View.{tree_of}
-
--- The first fault of a text of a kind, in the code's words. Memory may be refused at any text.
-abbrev pub HasFault : k.Kind → List ℕ → TextFault → Type 0
-HasFault kind text (Unexpected at) = r.IsFirstFault kind text (r.unexpected_at at)
-HasFault kind text (UnknownName at) = r.IsFirstFault kind text (r.unknown_name_at at)
-HasFault kind text (UnclosedParen at) = r.IsFirstFault kind text (r.unclosed_at at)
-HasFault kind text EmptyInput = r.IsFirstFault kind text r.empty_input
-HasFault kind text (NotAscii at) = r.IsFirstFault kind text (r.not_ascii_at at)
-HasFault kind text (Nesting at) = r.IsFirstFault kind text (r.nesting_at at)
-HasFault kind text (LiteralTooLarge at) = r.IsFirstFault kind text (r.literal_too_large_at at)
-HasFault kind text Memory = Unit {0}
-
--- the terms of a text, or its first fault
-abbrev pub ReadsTerms : k.Kind → List ℕ → Result (List Ast) TextFault → Type 0
-ReadsTerms kind text (Ok terms) = r.HasTrees kind text (map tree_of terms)
-ReadsTerms kind text (Err e) = HasFault kind text e
-
--- The contracts of the readers.
-abbrev pub ReadsTerm : List ℕ → Result Ast TextFault → Type 0
-ReadsTerm text (Ok a) = r.HasTrees k.a_term text (tree_of a ∷ [])
-ReadsTerm text (Err e) = HasFault k.a_term text e
-
-abbrev pub ReadsPair : List ℕ → Result (Ast × Ast) TextFault → Type 0
-ReadsPair text (Ok p) = r.HasTrees k.a_pair text (tree_of p.0 ∷ tree_of p.1 ∷ [])
-ReadsPair text (Err e) = HasFault k.a_pair text e
-
-abbrev pub ReadsBoxed : List ℕ → Result (Ast × Ast × BoxRange) TextFault → Type 0
-ReadsBoxed text (Ok b) = r.HasContents k.a_boxed text (tree_of b.0 ∷ tree_of b.1 ∷ []) (b.2.n0 ∷ b.2.n1 ∷ b.2.k0 ∷ b.2.k1 ∷ [])
-ReadsBoxed text (Err e) = HasFault k.a_boxed text e
+use Rattle.term_text.specs.Answers.{HasFault}
 
 -- the terms and the bounds of a text, or its first fault
 abbrev pub ReadsContents : k.Kind → List ℕ → Result Contents TextFault → Type 0

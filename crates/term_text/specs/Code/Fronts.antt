@@ -8,7 +8,7 @@ use Rattle.term_text.specs.declared.front.Front.{Front}
 use Rattle.term_text.specs.declared.front.Front.TheVariants as front
 use Rattle.term_text.specs.declared.front.Class.{Class}
 use Rattle.term_text.specs.declared.front.Class.TheVariants as class
-use Rattle.term_text.specs.Image.{token_image}
+use Rattle.term_text.specs.Code.Image.{token_image}
 
 abbrev pub in_class : Class → ℕ → Bool
 in_class class.Space = g.is_space
