@@ -1,6 +1,7 @@
 pub mod FallingParts
 pub mod PowerShapes
 pub mod PowerSumValues
+pub mod PowerSumKept
 pub mod Signed
 pub mod Sums
 pub mod Divisors

@@ -7,7 +7,8 @@ use Rattle.term_text.specs.View.{tree_of, parts_of}
 use Rattle.ekhad_cli.specs.declared.power_sum.Monomial.{Monomial}
 use Rattle.ekhad_cli.specs.PowerSum.{AreFalling, IsPowerSum, one_power, falling_powers}
 use Rattle.ekhad_cli.proofs.PowerShapes.{tree_sum, no_sum, none_is, sum_no_monomial}
-use Rattle.ekhad_cli.proofs.PowerSumValues.{power_sum_value, power_sum_kept}
+use Rattle.ekhad_cli.proofs.PowerSumKept.{power_sum_kept}
+use Rattle.ekhad_cli.proofs.PowerSumValues.{power_sum_value}
 use Rattle.ekhad_cli.proofs.power_sum.monomials_of.Goals as goal
 
 weaker : {A E : Type 0} (P Q : A → Type 0) (r : Result (Option A) E) → ((x : A) → P x → Q x) → IfOk r (λ found. IfSome found P)
