@@ -1,0 +1,10 @@
+mod Clamping
+mod Words
+mod SignLemmas
+mod Monotone
+mod AllOf
+mod Values
+mod Bounds
+mod DifferenceLaws
+mod Faults
+mod RootBounds
