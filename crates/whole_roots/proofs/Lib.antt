@@ -6,5 +6,7 @@ mod AllOf
 mod Values
 mod Bounds
 mod DifferenceLaws
+mod DifferenceBounds
 mod Faults
 mod RootBounds
+mod KnownRoots

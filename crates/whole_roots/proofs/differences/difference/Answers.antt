@@ -6,7 +6,8 @@ use Rattle.ring_laws.specs.WholeLaws.{whole_laws}
 use Rattle.ring_laws.specs.declared.wholes.Whole.{Whole}
 use Rattle.poly_laws.proofs.Belonging.{value_passes, value_fits}
 use Rattle.whole_roots.specs.Differences.{polynomials, DifferenceInBounds}
-use Rattle.whole_roots.proofs.DifferenceLaws.{shorter, shift_in_bounds, subtraction_in_bounds}
+use Rattle.whole_roots.proofs.DifferenceBounds.{shift_in_bounds, subtraction_in_bounds}
+use Rattle.whole_roots.proofs.DifferenceLaws.{shorter}
 use Rattle.whole_roots.proofs.Faults.{fault_out}
 use Rattle.whole_roots.proofs.differences.difference.Goals as goal
 
