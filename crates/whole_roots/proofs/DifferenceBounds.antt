@@ -38,8 +38,10 @@ module _ (f : Passing polynomials) (h : DifferenceInBounds f.0) where
   totals_fit : (k : ℕ) → base.Fits (base.sum (coefficient_at base totals k) (coefficient_at base sizes k))
   totals_fit k =
       subst base.Fits (at_sum base whole_laws.ring totals sizes k)
-      (subst whole_algebra.ops.Fits (ap (λ t. coefficient_at whole_algebra.ops t k) (sym (meanings-sum whole_algebra whole_laws.closed totals sizes
-      ∙ (λ i. list_sum whole_algebra.ops (shifts_are i) (sizes_are i)))) ∙ meanings-at whole_algebra whole_laws.closed whole_laws.ring whole_laws.magnitudes (list_sum base totals sizes) k) (h k))
+      (subst whole_algebra.ops.Fits
+      (ap (λ t. coefficient_at whole_algebra.ops t k) (sym (meanings-sum whole_algebra whole_laws.closed totals sizes
+      ∙ (λ i. list_sum whole_algebra.ops (shifts_are i) (sizes_are i))))
+      ∙ meanings-at whole_algebra whole_laws.closed whole_laws.ring whole_laws.magnitudes (list_sum base totals sizes) k) (h k))
 
   sizes_at : (k : ℕ) → coefficient_at base sizes k ≡ base.magnitude (coefficient_at base xs k)
   sizes_at k = at_magnitudes base whole_laws.ring whole_laws.magnitudes xs k
@@ -59,7 +61,8 @@ module _ (f : Passing polynomials) (h : DifferenceInBounds f.0) where
       (total_magnitude base whole_laws.ring whole_laws.magnitudes one xs k))
 
   -- and so is the subtraction
-  pub subtraction_in_bounds : (g : Passing polynomials) → g.0 ≡ poly_shift whole_algebra.ops (pos 1) f.0 → polynomials.ops.Fits g.0 → polynomials.ops.Fits f.0
+  pub subtraction_in_bounds : (g : Passing polynomials) → g.0 ≡ poly_shift whole_algebra.ops (pos 1) f.0
+      → polynomials.ops.Fits g.0 → polynomials.ops.Fits f.0
       → SumInBounds polynomials g.0 f.0
   subtraction_in_bounds g e p q =
       in_bounds_sums whole_algebra whole_laws g f p q
@@ -71,7 +74,8 @@ module _ (f : Passing polynomials) (h : DifferenceInBounds f.0) where
       (covers_sums base whole_laws.ring whole_laws.magnitudes (coefficient_at base totals k) (base.magnitude (shifted k))
       (coefficient_at base sizes k) (base.magnitude (coefficient_at base xs k))
       (shift_covered base whole_laws.ring whole_laws.magnitudes one xs k)
-      (covers_by base whole_laws.ring whole_laws.magnitudes {y = base.magnitude (coefficient_at base xs k)} (sizes_at k) refl (whole_laws.magnitudes.covers_same (base.magnitude (coefficient_at base xs k)))))
+      (covers_by base whole_laws.ring whole_laws.magnitudes {y = base.magnitude (coefficient_at base xs k)} (sizes_at k) refl
+      (whole_laws.magnitudes.covers_same (base.magnitude (coefficient_at base xs k)))))
       (whole_laws.magnitudes.of_sum (shifted k) (coefficient_at base xs k))))
     where
       shifted : ℕ → Passing whole_algebra

@@ -1,12 +1,14 @@
 -- The difference of a polynomial is shorter.
-use Rattle.std.specs.Prelude.{◌≡◌, ℕ, zero, suc, ◌-◌, ◌<◌, ◌≤◌, List, [], ◌∷◌, pos, map, length, refl}
+use Rattle.std.specs.Prelude.{◌≡◌, ℕ, zero, suc, ◌-◌, ◌<◌, ◌≤◌, IsTrue, List, [], ◌∷◌, pos, map, length, refl}
 use Rattle.std.proofs.Common.{ap, sym, ◌∙◌, arith}
 use Rattle.std.proofs.lemmas.List.{length-map}
-use Rattle.ring_laws.specs.Meaning.{Meaning, number, items, parted-joined}
+use Rattle.ring_laws.specs.Meaning.{Meaning, number, listed, items, parted-joined}
 use Rattle.ring_laws.specs.Algebra.{Ops, RingLaws, Passing, within}
 use Rattle.ring_laws.specs.Wholes.{whole_algebra}
 use Rattle.ring_laws.specs.WholeLaws.{whole_laws}
-use Rattle.poly_laws.specs.Lists.{coefficient_at, list_sum, trimmed}
+use Rattle.ring_laws.specs.declared.wholes.Whole.{Whole}
+use Rattle.poly_laws.proofs.Belonging.{value_passes, value_fits}
+use Rattle.poly_laws.specs.Lists.{is_trimmed, coefficient_at, list_sum, trimmed}
 use Rattle.poly_laws.specs.Shift.{raised_by, list_shift, poly_shift}
 use Rattle.poly_laws.proofs.Coefficients.{meanings_of, coefficients, meanings-coefficients, meanings-sum, meanings-neg, meanings-trimmed}
 use Rattle.poly_laws.proofs.ListLaws.{at_sum, at_scale, at_neg, sum_nought, product_nought}
@@ -42,6 +44,14 @@ one = (number (pos 1), refl)
 
 abbrev pub means : List (Passing whole_algebra) → List Meaning
 means xs = meanings_of whole_algebra whole_laws.closed xs
+
+-- a polynomial of the program as a meaning that belongs to the polynomials, and that fits
+abbrev pub polynomial_of : (list : List Whole) → IsTrue (is_trimmed whole_algebra.ops (map (λ (w : Whole). number w.value) list)) → Passing polynomials
+polynomial_of list ended =
+    (listed (map (λ (w : Whole). number w.value) list), value_passes whole_algebra (λ (w : Whole). number w.value) (λ _. refl) list ended)
+
+pub list_fits : (list : List Whole) → length list ≤ 256 → polynomials.ops.Fits (listed (map (λ (w : Whole). number w.value) list))
+list_fits list short = value_fits whole_algebra whole_laws (λ (w : Whole). number w.value) (λ w. w.small) list short
 
 -- the coefficients of the difference, before the zeros at the end are dropped
 abbrev difference_list : List (Passing whole_algebra) → List (Passing whole_algebra)

@@ -15,7 +15,8 @@ abbrev square : Meaning
 square = listed (number (pos 2) ∷ number (negsuc 2) ∷ number (pos 1) ∷ [])
 
 -- its roots are 1 and 2; at 0 and 3 it is 2
-known_values : (IsRoot square (pos 1) ≡ (pos 0 ≡ pos 0)) × ((IsRoot square (pos 2) ≡ (pos 0 ≡ pos 0)) × ((value square (pos 0) ≡ pos 2) × (value square (pos 3) ≡ pos 2)))
+known_values : (IsRoot square (pos 1) ≡ (pos 0 ≡ pos 0))
+    × ((IsRoot square (pos 2) ≡ (pos 0 ≡ pos 0)) × ((value square (pos 0) ≡ pos 2) × (value square (pos 3) ≡ pos 2)))
 known_values = (refl, (refl, (refl, refl)))
 
 -- its difference is 2*n - 2, and the next one 2

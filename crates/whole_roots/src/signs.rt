@@ -19,7 +19,7 @@ pub fn sign_at(f: &Zn, at: i128) -> Sign
     sign_far(f.coefficients(), at)
 }
 
-/// Whether the value there has this sign.
+// Whether the value there has this sign.
 pub fn has_sign(f: &Zn, at: i128, sign: Sign) -> bool
     requires at { at ≢ i128.MIN }
     ensures test { IsTrue result ↔ (sign_of (value (⟦<Zn as Ring>⟧.meaning f.now) at) ≡ sign) }
