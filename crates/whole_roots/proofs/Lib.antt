@@ -1,0 +1,12 @@
+mod Clamping
+mod Words
+mod SignLemmas
+mod Monotone
+mod AllOf
+mod Values
+mod Bounds
+mod DifferenceLaws
+mod DifferenceBounds
+mod Faults
+mod RootBounds
+mod KnownRoots

@@ -1,0 +1,70 @@
+use crate::{sign_at, whole_roots};
+use poly_generic::{Poly, Zn};
+use ring_laws::{Ring, RingFault, Sign, Whole};
+use std::alloc::Global;
+
+// The polynomial in n with these coefficients.
+fn numbers(alloc: Global, values: &[i128]) -> Result<Zn, RingFault> {
+    let mut list = Vec::new(alloc);
+    for value in values {
+        list.push(Whole::new(*value).ok_or(RingFault::TooLarge)?)?;
+    }
+    Poly::from_coefficients(list)
+}
+
+// Whether these are the whole roots of the polynomial with these coefficients.
+fn has_roots(alloc: Global, values: &[i128], roots: &[i128]) -> Result<bool, RingFault> {
+    let f = numbers(alloc, values)?;
+    if f.is_zero() {
+        return Ok(false);
+    }
+    let found = whole_roots(alloc, &f)?;
+    Ok(found.as_slice() == roots)
+}
+
+const GREATEST: i128 = i128::MAX;
+
+const LARGE: i128 = 85070591730234615865843651857942052863;
+
+#[test]
+fn whole_roots_of_known_polynomials(rt: HostRuntime) -> Result<(), RingFault> {
+    let alloc = rt.alloc();
+    assert!(rt; has_roots(alloc, &[2, -3, 1], &[1, 2])?);
+    assert!(rt; has_roots(alloc, &[1, 0, 1], &[])?);
+    assert!(rt; has_roots(alloc, &[0, 25, -10, 1], &[0, 5])?);
+    assert!(rt; has_roots(alloc, &[-1000000000000, 1], &[1000000000000])?);
+    assert!(rt; has_roots(alloc, &[LARGE, 1], &[-LARGE])?);
+    assert!(rt; has_roots(alloc, &[LARGE + 1, 1], &[]).is_err());
+    assert!(rt; has_roots(alloc, &[7], &[])?);
+    assert!(rt; has_roots(alloc, &[0, 6, -5, -5, 5, -1], &[-1, 0, 1, 2, 3])?);
+    Ok(())
+}
+
+// Whether this is the sign of the value there of the polynomial with these coefficients.
+fn has_sign(alloc: Global, values: &[i128], at: i128, sign: Sign) -> Result<bool, RingFault> {
+    let f = numbers(alloc, values)?;
+    if at == i128::MIN {
+        return Ok(false);
+    }
+    Ok(sign_at(&f, at) == sign)
+}
+
+#[test]
+fn signs_of_values(rt: HostRuntime) -> Result<(), RingFault> {
+    let alloc = rt.alloc();
+    let least = -GREATEST;
+    assert!(rt; has_sign(alloc, &[0, 1], -1, Sign::Negative)?);
+    assert!(rt; has_sign(alloc, &[0, 0, 1], 1 << 126, Sign::Positive)?);
+    assert!(rt; has_sign(alloc, &[0, 0, 0, 1], least, Sign::Negative)?);
+    assert!(rt; has_sign(alloc, &[], 5, Sign::Zero)?);
+    assert!(rt; has_sign(alloc, &[least, least, least], 1, Sign::Negative)?);
+    assert!(rt; has_sign(alloc, &[GREATEST, 1, -1, least], 1, Sign::Zero)?);
+    assert!(rt; has_sign(alloc, &[GREATEST, GREATEST, 1], -1, Sign::Positive)?);
+    assert!(rt; has_sign(alloc, &[least, 1], GREATEST, Sign::Zero)?);
+    assert!(rt; has_sign(alloc, &[least, 0, 0, 0, 0, 0, 1], 1 << 22, Sign::Positive)?);
+    let twentieth = [
+        0, 0, 0, 0, 0, 0, 0, 0, 0, 0, 0, 0, 0, 0, 0, 0, 0, 0, 0, 0, GREATEST,
+    ];
+    assert!(rt; has_sign(alloc, &twentieth, least, Sign::Positive)?);
+    Ok(())
+}
