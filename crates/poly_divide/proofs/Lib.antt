@@ -1,4 +1,4 @@
-mod Contents
+pub mod Contents
 mod FormMeanings
 mod CommonFactors
 mod KnownForms

@@ -1,0 +1,12 @@
+mod Crossing
+mod RowLemmas
+mod ManyRows
+mod Choices
+mod Columns
+mod PivotColumns
+mod VectorLemmas
+mod Absorbing
+mod BackStepAnswers
+mod BackRunAnswers
+mod Finish
+mod BasisAnswers

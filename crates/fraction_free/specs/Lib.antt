@@ -1,0 +1,4 @@
+pub mod RowAnswers
+pub mod RoundAnswers
+pub mod VectorAnswers
+pub mod KernelAnswers

@@ -1,0 +1,3 @@
+pub mod RowAnswer
+pub mod WholeRows
+pub mod WholeLaws

@@ -1,0 +1,15 @@
+-- What the calls on rows answer.
+use Rattle.std.specs.Prelude.{List, map, Result, Ok, Err, Vec}
+use Rattle.ring_laws.specs.Meaning.{Meaning}
+use Rattle.ring_laws.specs.Answer.{OnFault}
+use Rattle.ring_laws.specs.declared.faults.RingFault.{RingFault}
+
+-- a row of which P holds; `TooLarge` comes only where a step is not in bounds
+abbrev pub GivesRow : {T Z : Type 0} → (T → Meaning) → (List Meaning → Type 0) → Type 0 → Result (Vec T Z) RingFault → Type 0
+GivesRow meaning P InBounds (Ok row) = P (map meaning row.items)
+GivesRow meaning P InBounds (Err fault) = OnFault (¬ InBounds) fault
+
+-- two parts of which P holds; `TooLarge` comes only where a step is not in bounds
+abbrev pub GivesParts : {T : Type 0} → (T → Meaning) → (Meaning → Meaning → Type 0) → Type 0 → Result (record { 0 : T; 1 : T }) RingFault → Type 0
+GivesParts meaning P InBounds (Ok parts) = P (meaning parts.0) (meaning parts.1)
+GivesParts meaning P InBounds (Err fault) = OnFault (¬ InBounds) fault

@@ -1,0 +1,15 @@
+//! Domains whose rows can be reduced, and the whole numbers as the first of them.
+//!
+//! Input: a row of values, or one value. Output: the row reduced, or the value split into a plain part and a core.
+//! What a reduction has to give is in `specs/Reduction.antt` of `kernel_laws`; what it is for whole numbers is in
+//! `specs/WholeRows.antt`.
+//! Read `domains.rt` (the trait), then `whole_rows.rt`.
+#![tactic(auto)]
+
+mod domains;
+mod whole_rows;
+
+pub use domains::Reducing;
+
+#[cfg(test)]
+mod tests;

@@ -1,0 +1,90 @@
+//! Rows of whole numbers, reduced by their greatest common divisor.
+
+ghost use Rattle.std.specs.Prelude.{◌≡◌, ◌≢◌, ◌<◌, ◌^◌, ◌≤ℤ◌, pos, ◌*ℤ◌, unsigned_abs, map, IfOk, IfErr, IsFalse, ⊤};
+ghost use Rattle.std.specs.Int.{IsGcd};
+ghost use Rattle.ring_laws.specs.Meaning.{number};
+ghost use Rattle.ring_laws.specs.Wholes.{is_zero};
+ghost use Rattle.ring_laws.specs.declared.faults.RingFault.TheVariants.{Memory};
+ghost use Rattle.poly_divide.specs.Content.{DividesAll, IsContent};
+ghost use Rattle.reducing.specs.RowAnswer.{GivesRow, GivesParts};
+ghost use Rattle.reducing.specs.WholeRows.{WholeReduced, WholeSplit, whole_reduction};
+ghost use Rattle.reducing.specs.WholeLaws.{whole_reduction_laws};
+
+use crate::domains::Reducing;
+use ring_laws::{Domain, Ring, RingFault, Whole, gcd_whole};
+use std::alloc::Global;
+
+fn magnitude(number: Whole) -> u128
+    ensures magnitude { result ≡ unsigned_abs number.value }
+    ensures small { result < 2 ^ 127 }
+{
+    number.value().unsigned_abs()
+}
+
+// The greatest common divisor of two numbers, which is at least 0.
+fn common_divisor(a: Whole, b: Whole) -> Whole
+    ensures greatest { IsGcd (unsigned_abs a.value) (unsigned_abs b.value) (unsigned_abs result.value) }
+    ensures sign { pos 0 ≤ℤ result.value }
+{
+    let divisor = gcd_whole(magnitude(a), magnitude(b));
+    Whole::new(divisor as i128).unwrap()
+}
+
+// The greatest common divisor of all numbers of the row.
+fn content_of(row: &[Whole]) -> Whole
+    ensures content { IsContent (map (λ number. unsigned_abs number.value) row.now) (unsigned_abs result.value) }
+    ensures sign { pos 0 ≤ℤ result.value }
+{
+    let mut content = Whole::new(0).unwrap();
+    let mut at = row.len();
+    while at > 0 {
+        at -= 1;
+        content = common_divisor(row[at], content);
+    }
+    content
+}
+
+// The quotients by a number that divides each number of the row.
+fn divided(alloc: Global, row: &[Whole], divisor: Whole) -> Result<Vec<Whole>, RingFault>
+    requires divides { DividesAll (unsigned_abs divisor.value) (map (λ number. unsigned_abs number.value) row.now) }
+    requires not_zero { divisor.value ≢ pos 0 }
+    ensures quotients { IfOk result (λ quotients. map (λ number. number.value) row.now
+        ≡ map (λ number. divisor.value *ℤ number.value) quotients.items) }
+    ensures memory { IfErr result (λ fault. fault ≡ Memory) }
+{
+    let mut quotients = Vec::new(alloc);
+    for number in row {
+        let quotient = number.divide_exact(alloc, &divisor)?;
+        quotients.push(quotient.unwrap())?;
+    }
+    Ok(quotients)
+}
+
+impl Reducing for Whole {
+    ghost reduction = { whole_reduction };
+
+    ghost reduction_laws = { whole_reduction_laws };
+
+    fn weight(&self) -> u32 {
+        0
+    }
+
+    // Never `TooLarge`, and no memory is wanted for a row whose content is 0 or 1.
+    fn reduce_row(alloc: Global, row: Vec<Whole>) -> Result<Vec<Whole>, RingFault>
+        ensures reduces { GivesRow (λ whole. number whole.value) (WholeReduced (map (λ whole. number whole.value) row.items)) ⊤ result }
+    {
+        let content = content_of(&row);
+        if content.value() <= 1 {
+            return Ok(row);
+        }
+        divided(alloc, &row, content)
+    }
+
+    fn split(&self, alloc: Global) -> Result<(Whole, Whole), RingFault>
+        requires not_zero { IsFalse (is_zero self.now.value) }
+        ensures splits { GivesParts (λ whole. number whole.value) (WholeSplit (number self.now.value)) ⊤ result }
+    {
+        let core = Whole::one(alloc)?;
+        Ok((*self, core))
+    }
+}
