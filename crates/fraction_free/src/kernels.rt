@@ -64,7 +64,7 @@ pub fn eliminate<R: Reducing>(
         (StepsInBounds R.division_in_bounds R.algebra R.reduction columns (IsFirstFree columns first) (rows_meant R.meaning rows.items))
         result }
 
-    // The vector is the one that the steps give.
+    // The vector is one that the steps give.
     ensures steps { IsByTheSteps R.meaning R.algebra R.reduction columns (rows_meant R.meaning rows.items) result }
 {
     let width = columns as usize;
@@ -98,7 +98,7 @@ pub fn kernel_basis<R: Reducing>(
         (StepsInBounds R.division_in_bounds R.algebra R.reduction columns (IsFreeColumn columns) (rows_meant R.meaning rows.items))
         result }
 
-    // The vectors are those that the steps give.
+    // The vectors are such that the steps give them.
     ensures steps { AnswersBasis R.meaning (VectorsOf R.algebra R.reduction columns (rows_meant R.meaning rows.items)) result }
 {
     let width = columns as usize;
