@@ -14,7 +14,7 @@ use Rattle.poly_laws.proofs.Equal.{level_laws}
 use Rattle.poly_laws.proofs.InBounds.{ListsInBounds, in_bounds_sums, in_bounds_product}
 use Rattle.poly_generic.proofs.ListLemmas.{length-list_sum}
 use Rattle.poly_generic.proofs.EvalAnswers.{length-list_shift}
-use Rattle.document_text.specs.WellFormed.{IsPolynomial}
+use Rattle.hypergeometric.specs.TermFacts.{IsPolynomial}
 use Rattle.cert_text.specs.Readable.{Contents}
 use Rattle.cert_checker.specs.Checks.{next_y, difference, multiple, HasEquation, HasIdentity, AreInBounds}
 use Rattle.cert_checker.proofs.Identities.{equation_of}

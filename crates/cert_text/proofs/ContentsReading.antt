@@ -5,7 +5,7 @@ use Rattle.std.proofs.Common.{refl, ap, sym, subst, ◌∙◌}
 use Rattle.ring_laws.specs.Meaning.{Meaning}
 use Rattle.document_text.specs.Spelling.{polynomial_text}
 use Rattle.document_text.specs.Document.{document_text}
-use Rattle.document_text.specs.WellFormed.{IsNumber, IsPolynomial}
+use Rattle.hypergeometric.specs.TermFacts.{IsNumber, IsPolynomial}
 use Rattle.document_text.proofs.Cutting.{Only, only_more}
 use Rattle.document_text.proofs.Numerals.{signed_bytes, only_signed_decimal}
 use Rattle.document_text.proofs.MonomialBytes.{polynomial_bytes}

@@ -7,7 +7,7 @@ use Rattle.ring_laws.specs.Meaning.{Meaning, items, parted-joined}
 use Rattle.ring_laws.specs.Wholes.{number_of}
 use Rattle.poly_laws.specs.Values.{level}
 use Rattle.document_text.specs.Spelling.{Monomial, monomial_before, monomials_in_n, monomials_in_k, monomials_text, polynomial_text}
-use Rattle.document_text.specs.WellFormed.{IsNumber, IsPolynomial}
+use Rattle.hypergeometric.specs.TermFacts.{IsNumber, IsPolynomial}
 use Rattle.document_text.proofs.Totals.{number_at}
 use Rattle.cert_text.specs.PolynomialDocument.{constant_in_n, in_k}
 use Rattle.cert_text.specs.Printing.{monomial_in_k}

@@ -7,7 +7,7 @@ use Rattle.poly_laws.specs.Lists.{coefficient_at}
 use Rattle.poly_laws.specs.Values.{level}
 use Rattle.document_text.specs.Spelling.{polynomial_text, polynomial_in_n_text}
 use Rattle.document_text.specs.Document.{document_text}
-use Rattle.document_text.specs.WellFormed.{IsPolynomial}
+use Rattle.hypergeometric.specs.TermFacts.{IsPolynomial}
 use Rattle.cert_text.specs.Readable.{Contents, AreReadable, IsTextOf, SameLines, carried}
 
 -- k^2, and 2*k^3-3*k^2+k

@@ -12,7 +12,7 @@ use Rattle.poly_laws.proofs.Keeps.{value_at_keeps}
 use Rattle.poly_laws.proofs.Belonging.{value_passes}
 use Rattle.poly_laws.proofs.Equal.{level_laws}
 use Rattle.hypergeometric.specs.ProperTerm.{poly_value}
-use Rattle.document_text.specs.WellFormed.{IsPolynomial, IsNumber}
+use Rattle.hypergeometric.specs.TermFacts.{IsPolynomial, IsNumber}
 use Rattle.cert_text.specs.PolynomialDocument.{constant_in_n, in_k}
 
 horner_constants : (n k : ℤ) (cs : List Meaning) → horner (value_at (n ∷ [])) k (map constant_in_n cs) ≡ horner number_of k cs

@@ -16,7 +16,8 @@ use Rattle.hypergeometric.specs.Telescopes.{Telescopes}
 use Rattle.hypergeometric.proofs.FractionLaws.{one_not_zero}
 use Rattle.hypergeometric.proofs.PlainTerms.{plain_telescopes}
 use Rattle.hypergeometric.specs.FormOrder.{AreFactors}
-use Rattle.document_text.specs.WellFormed.{IsNumber, IsPolynomial, IsLowest, IsFactorList, IsProper, IsWellFormed}
+use Rattle.hypergeometric.specs.TermFacts.{IsNumber, IsPolynomial, IsLowest, IsProper}
+use Rattle.document_text.specs.WellFormed.{IsFactorList, IsWellFormed}
 use Rattle.cert_text.specs.PolynomialDocument.{in_k, polynomial_document}
 use Rattle.cert_text.proofs.LiftedPolynomials.{in_k_value, in_k_polynomial, in_k_not_zero, constant_polynomial}
 

@@ -2,7 +2,7 @@
 use Rattle.std.specs.Prelude.{◌≡◌, ◌≢◌, ℕ, suc, ◌<◌, Bool, true, false, ℤ, pos, negsuc, unsigned_abs, List, [], ◌∷◌, ◌++◌, flat_map}
 use Rattle.std.proofs.Common.{refl, ap, sym, subst, ◌∙◌, append_assoc, arith, lit<}
 use Rattle.document_text.specs.Spelling.{Monomial, power_text, magnitude_text, unsigned_text, sign_text, later_text}
-use Rattle.document_text.specs.WellFormed.{IsNumber}
+use Rattle.hypergeometric.specs.TermFacts.{IsNumber}
 use Rattle.document_text.proofs.Cutting.{Only, Stops, only_more}
 use Rattle.document_text.proofs.Powers.{unsigned_bytes}
 use Rattle.document_text.proofs.Monomials.{IsMonomial, only_unsigned, unsigned_not_empty}

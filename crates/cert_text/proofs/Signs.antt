@@ -4,7 +4,7 @@ use Rattle.std.specs.List.{list_all}
 use Rattle.std.specs.Fmt.{decimal, signed_decimal}
 use Rattle.std.proofs.Common.{refl, ap, sym, subst, ◌∙◌}
 use Rattle.std.proofs.lemmas.Bool.{and_parts}
-use Rattle.document_text.specs.WellFormed.{IsNumber}
+use Rattle.hypergeometric.specs.TermFacts.{IsNumber}
 use Rattle.document_text.proofs.Cutting.{Only, only_more}
 use Rattle.document_text.proofs.Numerals.{digit_bytes, only_decimal, decimal_not_empty}
 use Rattle.cert_text.specs.Reading.{unsigned, Begins, IsSignOf, signed_number}

@@ -11,7 +11,7 @@ use Rattle.poly_laws.specs.PolyAlgebra.{every_passes}
 use Rattle.poly_laws.specs.Values.{level}
 use Rattle.poly_laws.proofs.Trimming.{trimmed_already}
 use Rattle.poly_laws.proofs.Belonging.{value_passes, value_fits}
-use Rattle.document_text.specs.WellFormed.{IsPolynomial}
+use Rattle.hypergeometric.specs.TermFacts.{IsPolynomial}
 use Rattle.document_text.proofs.Totals.{number_at}
 use Rattle.cert_text.specs.Printing.{numbers}
 use Rattle.cert_text.specs.Reading.{value_in}

@@ -3,7 +3,7 @@
 use Rattle.std.specs.Prelude.{◌≡◌, ◌≢◌, ℕ, zero, suc, ◌^◌, ◌≤◌, if◌then◌else◌, nat_eq, nat_lt, ◌-◌, ℤ, pos, List, [], ◌∷◌, length}
 use Rattle.ring_laws.specs.Meaning.{Meaning, items}
 use Rattle.document_text.specs.Document.{Document, document_text}
-use Rattle.document_text.specs.WellFormed.{IsNumber, IsPolynomial}
+use Rattle.hypergeometric.specs.TermFacts.{IsNumber, IsPolynomial}
 use Rattle.cert_text.specs.PolynomialDocument.{polynomial_document}
 
 -- what varies in the document of a polynomial in k

@@ -5,7 +5,7 @@ use Rattle.std.specs.List.{list_any}
 use Rattle.std.specs.Fmt.{decimal}
 use Rattle.ring_laws.specs.declared.wholes.Whole.{Whole}
 use Rattle.document_text.specs.Spelling.{Monomial, later_text}
-use Rattle.document_text.specs.WellFormed.{IsNumber}
+use Rattle.hypergeometric.specs.TermFacts.{IsNumber}
 use Rattle.document_text.proofs.Cutting.{Only, Stops}
 use Rattle.cert_text.specs.Printing.{monomial_in_k, placed_text}
 

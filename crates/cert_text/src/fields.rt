@@ -4,7 +4,7 @@ ghost use Rattle.std.specs.Prelude.{◌≡◌, ◌≢◌, ◌≤◌, ◌↔◌, 
 ghost use Rattle.std.specs.Fmt.{signed_decimal};
 ghost use Rattle.ring_laws.specs.Meaning.{Meaning, items};
 ghost use Rattle.document_text.specs.Spelling.{polynomial_text};
-ghost use Rattle.document_text.specs.WellFormed.{IsNumber, IsPolynomial};
+ghost use Rattle.hypergeometric.specs.TermFacts.{IsNumber, IsPolynomial};
 ghost use Rattle.cert_text.specs.PolynomialDocument.{in_k};
 
 use crate::numbers::read_whole;

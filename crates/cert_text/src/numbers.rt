@@ -2,7 +2,7 @@
 
 ghost use Rattle.std.specs.Prelude.{◌≡◌, ◌<◌, ◌^◌, ℕ, ℤ, Some, MatchOption};
 ghost use Rattle.std.specs.Fmt.{decimal, signed_decimal};
-ghost use Rattle.document_text.specs.WellFormed.{IsNumber};
+ghost use Rattle.hypergeometric.specs.TermFacts.{IsNumber};
 ghost use Rattle.cert_text.specs.Reading.{IsSignOf, signed_number};
 
 use ring_laws::Whole;

@@ -3,7 +3,7 @@
 ghost use Rattle.std.specs.Prelude.{◌≡◌, ◌<◌, ◌^◌, ◌++◌, ℕ, ℤ, pos, Bool, true, List, length, Some, IfOk, IfSome, MatchOption};
 ghost use Rattle.ring_laws.specs.Meaning.{Meaning};
 ghost use Rattle.document_text.specs.Spelling.{Monomial, power_text, magnitude_text, polynomial_text};
-ghost use Rattle.document_text.specs.WellFormed.{IsNumber, IsPolynomial};
+ghost use Rattle.hypergeometric.specs.TermFacts.{IsNumber, IsPolynomial};
 ghost use Rattle.document_text.proofs.Cutting.{Stops};
 ghost use Rattle.cert_text.specs.PolynomialDocument.{in_k};
 ghost use Rattle.cert_text.specs.Printing.{monomial_in_k, placed_text};

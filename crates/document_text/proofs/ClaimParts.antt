@@ -8,7 +8,8 @@ use Rattle.hypergeometric.specs.LinearForm.{LinearForm}
 use Rattle.document_text.specs.Spelling.{◌⧺◌, joined, polynomial_in_n_text}
 use Rattle.document_text.specs.TermText.{form_text, items_text}
 use Rattle.document_text.specs.Document.{Match, match_text, range_text}
-use Rattle.document_text.specs.WellFormed.{IsPolynomial, IsMatch, IsRange}
+use Rattle.hypergeometric.specs.TermFacts.{IsPolynomial}
+use Rattle.document_text.specs.WellFormed.{IsMatch, IsRange}
 use Rattle.document_text.proofs.Cutting.{among, Only, only_append, only_more}
 use Rattle.document_text.proofs.MonomialBytes.{polynomial_bytes}
 use Rattle.document_text.proofs.Polynomials.{only_polynomial_in_n, polynomial_in_n_determines}

@@ -7,7 +7,8 @@ use Rattle.hypergeometric.specs.LinearForm.{FactorList}
 use Rattle.document_text.specs.Spelling.{◌⧺◌}
 use Rattle.document_text.specs.TermText.{factor_text, factors_text, factor_list_text}
 use Rattle.hypergeometric.specs.FormOrder.{IsFactor}
-use Rattle.document_text.specs.WellFormed.{IsFactorList, IsNumber}
+use Rattle.hypergeometric.specs.TermFacts.{IsNumber}
+use Rattle.document_text.specs.WellFormed.{IsFactorList}
 use Rattle.document_text.proofs.Cutting.{among, Only, only_append, only_more}
 use Rattle.document_text.proofs.Numerals.{signed_bytes, only_signed_decimal, signed_decimal_determines}
 use Rattle.document_text.proofs.Forms.{item_bytes, only_factor, factor_determines, factor_no_minus}

@@ -9,7 +9,8 @@ use Rattle.ring_laws.specs.Wholes.{number_of}
 use Rattle.poly_laws.specs.Values.{level}
 use Rattle.hypergeometric.specs.Fraction.{of_whole}
 use Rattle.hypergeometric.specs.FormOrder.{AreFactors}
-use Rattle.document_text.specs.WellFormed.{IsPolynomial, IsLowest, ArePrimitiveFactors, IsFactorList, IsProper, IsWellFormed}
+use Rattle.hypergeometric.specs.TermFacts.{IsPolynomial, IsLowest, IsProper}
+use Rattle.document_text.specs.WellFormed.{ArePrimitiveFactors, IsFactorList, IsWellFormed}
 use Rattle.document_text.proofs.KnownDocuments.{squares, plain, unit_list, c, nought}
 
 -- what each item and the default keep, each coefficient keeps

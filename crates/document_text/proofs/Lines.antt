@@ -7,7 +7,8 @@ use Rattle.document_text.specs.Spelling.{polynomial_text}
 use Rattle.document_text.specs.TermText.{factors_text, factor_list_text, proper_term_text}
 use Rattle.document_text.specs.Document.{line, range_text}
 use Rattle.hypergeometric.specs.FormOrder.{IsFactor}
-use Rattle.document_text.specs.WellFormed.{IsFactorList, IsProper, IsPolynomial, IsMatch, IsRange}
+use Rattle.hypergeometric.specs.TermFacts.{IsProper, IsPolynomial}
+use Rattle.document_text.specs.WellFormed.{IsFactorList, IsMatch, IsRange}
 use Rattle.document_text.proofs.Cutting.{among}
 use Rattle.document_text.proofs.Numerals.{digit_bytes, only_decimal, decimal_determines}
 use Rattle.document_text.proofs.MonomialBytes.{polynomial_bytes}

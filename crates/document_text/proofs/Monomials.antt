@@ -5,7 +5,7 @@ use Rattle.std.specs.Str.{byte}
 use Rattle.std.proofs.Common.{refl, ap, sym, subst, ◌∙◌, append-nil}
 use Rattle.std.proofs.lemmas.Bool.{eqb-true}
 use Rattle.document_text.specs.Spelling.{◌⧺◌, Monomial, powers_text, magnitude_text, unsigned_text}
-use Rattle.document_text.specs.WellFormed.{IsNumber}
+use Rattle.hypergeometric.specs.TermFacts.{IsNumber}
 use Rattle.document_text.proofs.Cutting.{among, Only, Stops, only_append, only_more}
 use Rattle.document_text.proofs.Numerals.{digit_bytes, only_decimal, decimal_not_empty, decimal_determines, decimal_before, decimal_starts}
 use Rattle.document_text.proofs.Powers.{unsigned_bytes, only_powers, powers_stop, powers_determine}

@@ -12,7 +12,7 @@ use Rattle.std.proofs.lemmas.Fmt.{decimal_is_IsNumeral_wide, decimal_by_steps_wi
 use Rattle.hypergeometric.specs.Fraction.{Fraction}
 use Rattle.document_text.specs.Spelling.{◌⧺◌, fraction_text}
 use Rattle.document_text.specs.TermText.{times_text}
-use Rattle.document_text.specs.WellFormed.{IsNumber, IsLowest}
+use Rattle.hypergeometric.specs.TermFacts.{IsNumber, IsLowest}
 use Rattle.document_text.proofs.Cutting.{among, Only, Stops, only_append, only_more, cut}
 
 abbrev pub digit_bytes : List ℕ

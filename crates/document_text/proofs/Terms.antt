@@ -6,7 +6,7 @@ use Rattle.hypergeometric.specs.ProperTerm.{ProperTerm}
 use Rattle.document_text.specs.Spelling.{◌⧺◌, fraction_text, polynomial_text}
 use Rattle.document_text.specs.TermText.{factors_text, proper_term_text}
 use Rattle.hypergeometric.specs.FormOrder.{IsFactor}
-use Rattle.document_text.specs.WellFormed.{IsProper, IsLowest, IsPolynomial}
+use Rattle.hypergeometric.specs.TermFacts.{IsProper, IsLowest, IsPolynomial}
 use Rattle.document_text.proofs.Cutting.{among, other_than, Only, only_append}
 use Rattle.document_text.proofs.Numerals.{fraction_bytes, only_fraction, fraction_determines}
 use Rattle.document_text.proofs.MonomialBytes.{polynomial_bytes}

@@ -8,7 +8,7 @@ use Rattle.ring_laws.specs.Meaning.{Meaning, items}
 use Rattle.ring_laws.specs.Wholes.{whole_algebra, number_of}
 use Rattle.poly_laws.specs.Lists.{coefficient_at}
 use Rattle.poly_laws.specs.Values.{value_at}
-use Rattle.document_text.specs.WellFormed.{IsPolynomial, IsNumber}
+use Rattle.hypergeometric.specs.TermFacts.{IsPolynomial, IsNumber}
 use lib.IntN.{pow}
 use Rattle.ring_solver.proofs.Read.{ring_z, reading_z}
 use Rattle.hypergeometric.specs.Fraction.{of_whole}

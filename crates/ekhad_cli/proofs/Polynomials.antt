@@ -14,7 +14,7 @@ use Rattle.poly_laws.specs.Values.{horner, value_at}
 use Rattle.poly_laws.proofs.Keeps.{of_list, whole_keeps}
 use Rattle.poly_laws.proofs.Trimming.{is_trimmed_trimmed, length-trimmed}
 use Rattle.cert_checker.proofs.SmallCoefficients.{number_at, AreWithin, trimmed_at}
-use Rattle.document_text.specs.WellFormed.{IsPolynomial}
+use Rattle.hypergeometric.specs.TermFacts.{IsPolynomial}
 use Rattle.ekhad_cli.specs.Antidifference.{value_of}
 use Rattle.ekhad_cli.specs.Answer.{coefficient}
 

@@ -10,7 +10,8 @@ use Rattle.hypergeometric.specs.Tree.{Tree}
 use Rattle.hypergeometric.specs.TreeValue.{term_value}
 use Rattle.hypergeometric.specs.Telescopes.{Telescopes}
 use Rattle.document_text.specs.Document.{Document}
-use Rattle.document_text.specs.WellFormed.{IsPolynomial, IsWellFormed}
+use Rattle.hypergeometric.specs.TermFacts.{IsPolynomial}
+use Rattle.document_text.specs.WellFormed.{IsWellFormed}
 use Rattle.cert_text.specs.PolynomialDocument.{polynomial_document}
 use Rattle.cert_text.specs.Readable.{contents, AreReadable}
 use Rattle.cert_checker.specs.Checks.{AreInBounds}

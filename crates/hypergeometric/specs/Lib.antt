@@ -2,6 +2,7 @@ pub mod Fraction
 pub mod LinearForm
 pub mod FormOrder
 pub mod ProperTerm
+pub mod TermFacts
 pub mod Tree
 pub mod TreePolynomial
 pub mod TreeValue
