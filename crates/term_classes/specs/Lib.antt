@@ -1,0 +1,8 @@
+pub mod Refusals
+pub mod Steps
+pub mod Divisors
+pub mod Forms
+pub mod Sought
+pub mod Walk
+pub mod Recurrence
+pub mod ClassValues

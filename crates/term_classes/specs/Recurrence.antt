@@ -1,0 +1,70 @@
+-- The polynomials in n of a recurrence's trees, or the first refusal.
+use Rattle.std.specs.Prelude.{ℕ, ◌-◌, min, if◌then◌else◌, nat_eq, List, [], ◌∷◌, length, Option, Some, None}
+use Rattle.ring_laws.specs.Meaning.{Meaning, items, listed}
+use Rattle.hypergeometric.specs.Tree.{Tree, tree, Node, literal, variable_n, variable_k, sum_of, product_of, power_of, factorial_of, binomial_of, Parts, no_parts, part}
+use Rattle.term_classes.specs.Refusals.{improper, order_limit}
+use Rattle.term_classes.specs.Steps.{Steps, gives, refuses, within_limit, ◌then◌}
+use Rattle.term_classes.specs.Sought.{polynomial_sought}
+use Rattle.term_classes.specs.Walk.{place_of}
+
+-- the lesser of two places, where there are any
+abbrev pub least_place : Option ℕ → Option ℕ → Option ℕ
+least_place None b = b
+least_place (Some a) None = Some a
+least_place (Some a) (Some b) = Some (min a b)
+
+-- the least place of a name k
+abbrev mutual
+  pub place_of_k : Tree → Option ℕ
+  place_of_k (tree at node) = node_place_of_k at node
+
+  pub node_place_of_k : ℕ → Node → Option ℕ
+  node_place_of_k at (literal c) = None
+  node_place_of_k at variable_n = None
+  node_place_of_k at variable_k = Some at
+  node_place_of_k at (sum_of parts) = parts_place_of_k parts
+  node_place_of_k at (product_of parts) = parts_place_of_k parts
+  node_place_of_k at (power_of base e) = least_place (place_of_k base) (place_of_k e)
+  node_place_of_k at (factorial_of t) = place_of_k t
+  node_place_of_k at (binomial_of l m) = least_place (place_of_k l) (place_of_k m)
+
+  pub parts_place_of_k : Parts → Option ℕ
+  parts_place_of_k no_parts = None
+  parts_place_of_k (part turned t parts) = least_place (place_of_k t) (parts_place_of_k parts)
+
+-- the polynomial in n that a polynomial without k is
+abbrev pub in_n_alone : List Meaning → Meaning
+in_n_alone [] = listed []
+in_n_alone (c ∷ cs) = c
+
+abbrev pub polynomial_or_refused : Tree → Option Meaning → Steps Meaning
+polynomial_or_refused t None = refuses (improper 6 (place_of t))
+polynomial_or_refused t (Some p) = gives (in_n_alone (items p))
+
+abbrev pub coefficient_sought : Tree → Steps Meaning
+coefficient_sought t = elim (place_of_k t) as (λ _. Steps Meaning) [
+  | Some at ↦ refuses (improper 8 at)
+  | None ↦ polynomial_sought t then (polynomial_or_refused t)
+]
+
+abbrev pub coefficients_sought : List Tree → Steps (List Meaning)
+coefficients_sought [] = gives []
+coefficients_sought (t ∷ ts) = coefficient_sought t then (λ p. coefficients_sought ts then (λ ps. gives (p ∷ ps)))
+
+-- a polynomial that is 0 is refused at its tree
+abbrev pub not_zero_at : Tree → Meaning → Steps Meaning
+not_zero_at t p = if nat_eq (length (items p)) 0 then refuses (improper 7 (place_of t)) else gives p
+
+abbrev pub first_not_zero : List Tree → List Meaning → Steps (List Meaning)
+first_not_zero (t ∷ ts) (p ∷ ps) = not_zero_at t p then (λ q. gives (p ∷ ps))
+first_not_zero ts ps = gives ps
+
+abbrev pub last_not_zero : List Tree → List Meaning → Steps (List Meaning)
+last_not_zero (t ∷ []) (p ∷ []) = not_zero_at t p then (λ q. gives (p ∷ []))
+last_not_zero (t ∷ s ∷ ts) (p ∷ ps) = last_not_zero (s ∷ ts) ps then (λ qs. gives (p ∷ qs))
+last_not_zero ts ps = gives ps
+
+-- The polynomials of a recurrence of order at most 6, of which neither the first nor the last is 0.
+abbrev pub recurrence_sought : List Tree → Steps (List Meaning)
+recurrence_sought ts = within_limit order_limit 6 (length ts - 1) ts then (λ ts1. coefficients_sought ts then (λ ps.
+    first_not_zero ts ps then (λ ps1. last_not_zero ts ps)))

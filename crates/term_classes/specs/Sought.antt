@@ -1,0 +1,157 @@
+-- The polynomial and the constant that a tree stands for, as they are sought: its parts in the order of the text, the exponent of a power
+-- before its base. The first that has none, or passes the limit of a constant exponent, decides.
+use Rattle.std.specs.Prelude.{ℕ, ◌*◌, Bool, true, false, ◌&&◌, ◌||◌, if◌then◌else◌, ℤ, pos, negsuc, unsigned_abs, List, [], ◌∷◌, Option, Some, None}
+use Rattle.ring_laws.specs.Meaning.{Meaning, items}
+use Rattle.hypergeometric.specs.Fraction.{Fraction, of_whole, fraction_negative, fraction_product}
+use Rattle.hypergeometric.specs.Tree.{Tree, tree, Node, literal, variable_n, variable_k, sum_of, product_of, power_of, factorial_of, binomial_of, Parts, no_parts, part}
+use Rattle.hypergeometric.specs.TreePolynomial.{in_n_and_k, poly_n, poly_k, poly_power, constant_in_k, constant_of}
+use Rattle.lin_form.specs.Products.{power_in, nonzero_magnitude}
+use Rattle.term_classes.specs.Refusals.{exponent_limit}
+use Rattle.term_classes.specs.Steps.{Steps, Counterpart, of_polynomial, of_fraction, gives, makes, within_limit, ◌then◌}
+use Rattle.term_classes.specs.Divisors.{lowest_terms, raised_fraction, size_of_top, size_of_bottom}
+use Rattle.term_classes.specs.Forms.{is_zero}
+
+abbrev pub sum_of_polynomials : List Meaning → Meaning
+sum_of_polynomials [] = in_n_and_k.nought
+sum_of_polynomials (p ∷ ps) = in_n_and_k.sum p (sum_of_polynomials ps)
+
+abbrev pub product_of_polynomials : List Meaning → Meaning
+product_of_polynomials [] = in_n_and_k.unit
+product_of_polynomials (p ∷ ps) = in_n_and_k.product p (product_of_polynomials ps)
+
+-- the counterparts of a sum, of a product and of a power; factors that are 0 are left out
+abbrev pub sizes_added : List Meaning → Meaning
+sizes_added [] = in_n_and_k.nought
+sizes_added (p ∷ ps) = in_n_and_k.sum (in_n_and_k.magnitude p) (sizes_added ps)
+
+abbrev pub sizes_multiplied : List Meaning → Meaning
+sizes_multiplied [] = in_n_and_k.unit
+sizes_multiplied (p ∷ ps) = in_n_and_k.product (nonzero_magnitude in_n_and_k p) (sizes_multiplied ps)
+
+abbrev pub size_raised : Meaning → ℕ → Meaning
+size_raised p e = power_in in_n_and_k (nonzero_magnitude in_n_and_k p) e
+
+abbrev pub signed_polynomial : Bool → Meaning → Meaning
+signed_polynomial true p = in_n_and_k.neg p
+signed_polynomial false p = p
+
+-- one more item, where there is a list
+abbrev pub in_front : {A : Type 0} → A → Option (List A) → Option (List A)
+in_front x None = None
+in_front x (Some xs) = Some (x ∷ xs)
+
+abbrev pub made_of : {A B : Type 0} → ℕ → (A → Counterpart) → (A → B) → Option A → Steps (Option B)
+made_of at counterpart value None = gives None
+made_of at counterpart value (Some x) = makes at (counterpart x) (Some (value x))
+
+abbrev pub raised_at : ℕ → ℕ → Option Meaning → Steps (Option Meaning)
+raised_at at e = made_of at (λ p. of_polynomial (size_raised p e)) (λ p. poly_power p e)
+
+-- f where there is something, and nothing where there isn't
+abbrev pub where_some : {A B : Type 0} → Option A → (A → Steps (Option B)) → Steps (Option B)
+where_some None f = gives None
+where_some (Some x) f = f x
+
+-- a constant exponent of a polynomial is from 0 to 12: a negative one decides that there is none
+abbrev pub where_natural : ℤ → (ℕ → Steps (Option Meaning)) → Steps (Option Meaning)
+where_natural (pos e) f = f e
+where_natural (negsuc e) f = gives None
+
+abbrev mutual
+  pub polynomial_sought : Tree → Steps (Option Meaning)
+  polynomial_sought (tree at node) = node_polynomial_sought at node
+
+  pub node_polynomial_sought : ℕ → Node → Steps (Option Meaning)
+  node_polynomial_sought at (literal c) = gives (Some (in_n_and_k.whole (pos c)))
+  node_polynomial_sought at variable_n = gives (Some poly_n)
+  node_polynomial_sought at variable_k = gives (Some poly_k)
+  node_polynomial_sought at (sum_of parts) =
+      summands_sought parts then (made_of at (λ ps. of_polynomial (sizes_added ps)) sum_of_polynomials)
+  node_polynomial_sought at (product_of parts) =
+      factors_sought parts then (made_of at (λ ps. of_polynomial (sizes_multiplied ps)) product_of_polynomials)
+  node_polynomial_sought at (power_of base e) = polynomial_sought e then (λ p.
+      where_some (constant_of p) (λ c. within_limit exponent_limit 12 (unsigned_abs c) c then (λ c1.
+      where_natural c (λ power. polynomial_sought base then (raised_at at power)))))
+  node_polynomial_sought at (factorial_of t) = gives None
+  node_polynomial_sought at (binomial_of l m) = gives None
+
+  -- the polynomials of the parts of a sum, with their signs
+  pub summands_sought : Parts → Steps (Option (List Meaning))
+  summands_sought no_parts = gives (Some [])
+  summands_sought (part turned t parts) = polynomial_sought t then (λ p.
+      where_some p (λ p1. summands_sought parts then (λ ps. gives (in_front (signed_polynomial turned p1) ps))))
+
+  -- those of the parts of a product; a part that is divided by decides that there is none
+  pub factors_sought : Parts → Steps (Option (List Meaning))
+  factors_sought no_parts = gives (Some [])
+  factors_sought (part true t parts) = gives None
+  factors_sought (part false t parts) = polynomial_sought t then (λ p.
+      where_some p (λ p1. factors_sought parts then (λ ps. gives (in_front p1 ps))))
+
+-- a fraction, and whether it is divided by
+abbrev pub FractionFactor : Type 0
+FractionFactor = Bool × Fraction
+
+-- whether 0 is divided by
+abbrev pub divides_by_zero : List FractionFactor → Bool
+divides_by_zero [] = false
+divides_by_zero (x ∷ xs) = (x.0 && is_zero x.1.top) || divides_by_zero xs
+
+-- the factor itself, or the fraction that divides by it
+abbrev pub factor_fraction : FractionFactor → Fraction
+factor_fraction x = if x.0 then record { top = x.1.bottom; bottom = x.1.top } else x.1
+
+abbrev pub product_of_fractions : List FractionFactor → Fraction
+product_of_fractions [] = of_whole (pos 1)
+product_of_fractions (x ∷ xs) = fraction_product (factor_fraction x) (product_of_fractions xs)
+
+abbrev pub top_sizes : List FractionFactor → ℕ
+top_sizes [] = 1
+top_sizes (x ∷ xs) = size_of_top (factor_fraction x) * top_sizes xs
+
+abbrev pub bottom_sizes : List FractionFactor → ℕ
+bottom_sizes [] = 1
+bottom_sizes (x ∷ xs) = size_of_bottom (factor_fraction x) * bottom_sizes xs
+
+-- the product in lowest terms, where nothing is divided by 0
+abbrev pub product_made : ℕ → Option (List FractionFactor) → Steps (Option Fraction)
+product_made at fs = where_some fs (λ xs. if divides_by_zero xs then gives None
+    else makes at (of_fraction (top_sizes xs) (bottom_sizes xs)) (Some (lowest_terms (product_of_fractions xs))))
+
+-- f to a constant power, where 0 isn't raised to a negative one
+abbrev pub power_made : ℕ → ℤ → Fraction → Steps (Option Fraction)
+power_made at (negsuc e) f = if is_zero f.top then gives None
+    else makes at (of_fraction (size_of_top (raised_fraction f (negsuc e))) (size_of_bottom (raised_fraction f (negsuc e))))
+    (Some (lowest_terms (raised_fraction f (negsuc e))))
+power_made at (pos e) f =
+    makes at (of_fraction (size_of_top (raised_fraction f (pos e))) (size_of_bottom (raised_fraction f (pos e))))
+    (Some (lowest_terms (raised_fraction f (pos e))))
+
+abbrev pub whole_fraction : Option ℤ → Option Fraction
+whole_fraction None = None
+whole_fraction (Some z) = Some (of_whole z)
+
+abbrev pub negative_of : Option Fraction → Option Fraction
+negative_of None = None
+negative_of (Some f) = Some (fraction_negative f)
+
+-- A tree is a constant where its polynomial is one; other cases are looked at only where it has no polynomial.
+abbrev mutual
+  pub constant_sought : Tree → Steps (Option Fraction)
+  constant_sought (tree at node) = node_polynomial_sought at node then (λ p. elim p as (λ _. Steps (Option Fraction)) [
+    | Some q ↦ gives (whole_fraction (constant_in_k (items q)))
+    | None ↦ node_constant_sought at node
+  ])
+
+  pub node_constant_sought : ℕ → Node → Steps (Option Fraction)
+  node_constant_sought at (sum_of (part true t no_parts)) = constant_sought t then (λ f. gives (negative_of f))
+  node_constant_sought at (product_of parts) = constants_sought parts then (product_made at)
+  node_constant_sought at (power_of base e) = polynomial_sought e then (λ p.
+      where_some (constant_of p) (λ c. within_limit exponent_limit 12 (unsigned_abs c) c then (λ c1.
+      constant_sought base then (λ f. where_some f (power_made at c)))))
+  node_constant_sought at node = gives None
+
+  pub constants_sought : Parts → Steps (Option (List FractionFactor))
+  constants_sought no_parts = gives (Some [])
+  constants_sought (part turned t parts) = constant_sought t then (λ f.
+      where_some f (λ f1. constants_sought parts then (λ fs. gives (in_front (turned, f1) fs))))
