@@ -42,10 +42,10 @@ same e = record {
 pub same_turned : {f g : Fraction} → f ≅ g → g ≅ f
 same_turned e = record { zero_right = e.zero_left; zero_left = e.zero_right; cross = sym e.cross }
 
-times_zero : (a : ℤ) → a *ℤ pos 0 ≡ pos 0
+pub times_zero : (a : ℤ) → a *ℤ pos 0 ≡ pos 0
 times_zero a = ring_z (a ∷ []) (search reading_z depth 40 fits 20000) refl
 
-zero_times : (a : ℤ) → pos 0 *ℤ a ≡ pos 0
+pub zero_times : (a : ℤ) → pos 0 *ℤ a ≡ pos 0
 zero_times a = ring_z (a ∷ []) (search reading_z depth 40 fits 20000) refl
 
 pub zero_or_not : (z : ℤ) → (z ≡ pos 0) ⊎ ¬ (z ≡ pos 0)
