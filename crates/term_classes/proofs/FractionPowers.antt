@@ -63,10 +63,6 @@ power_of_sum f (suc a) b =
     ap (natural_power f) next ∙ ap (fraction_product f) (power_of_sum f a b)
     ∙ sym (product_assoc f (natural_power f a) (natural_power f b))
 
-pub power_of_one : (n : ℕ) → natural_power (of_whole (pos 1)) n ≡ of_whole (pos 1)
-power_of_one zero = refl
-power_of_one (suc n) = one_product (natural_power (of_whole (pos 1)) n) ∙ power_of_one n
-
 pub power_twice : (f : Fraction) (a b : ℕ) → natural_power (natural_power f a) b ≡ natural_power f (a * b)
 power_twice f a zero =
     let none : 0 ≡ a * 0 = omega arith in

@@ -2,4 +2,6 @@ pub mod SameValues
 pub mod FractionPowers
 pub mod NonzeroPowers
 pub mod LowestTerms
+pub mod PolynomialValues
+pub mod StepLaws
 mod KnownClasses
