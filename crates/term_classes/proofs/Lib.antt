@@ -4,4 +4,5 @@ pub mod NonzeroPowers
 pub mod LowestTerms
 pub mod PolynomialValues
 pub mod StepLaws
+pub mod SoughtPolynomials
 mod KnownClasses

@@ -1,7 +1,8 @@
 -- What steps that gave something say of the steps that they are made of.
 use Rattle.std.proofs.Common.{◌≡◌, ℕ, Bool, true, false, List, refl, ap, Option, Some, None}
 use Rattle.std.specs.Prelude.{nat_le, if◌then◌else◌, Result, Ok, Err}
-use Rattle.std.proofs.lemmas.Result.{same_Ok}
+use Rattle.std.specs.Result.{result_ok}
+use Rattle.std.proofs.lemmas.Option.{same_Some}
 use Rattle.term_classes.specs.Refusals.{Limit, Refusal, limit, capped}
 use Rattle.term_classes.specs.Steps.{Steps, Operation, gives, refuses, after, within_limit, ◌then◌}
 use Rattle.term_classes.specs.Sought.{where_some}
@@ -14,6 +15,9 @@ pub record Gave {A B : Type 0} (s : Steps A) (f : A → Steps B) (y : B) : Type 
 
 not_refused : {A : Type 0} (r : Refusal) (y : A) → Err r ≡ Ok y → ⊥
 not_refused r y e = cc
+
+pub same_Ok : {A : Type 0} (x y : A) → (gives x).outcome ≡ Ok y → x ≡ y
+same_Ok x y e = same_Some x y (ap result_ok e)
 
 pub then_gave : {A B : Type 0} (s : Steps A) (f : A → Steps B) (y : B) → (s then f).outcome ≡ Ok y → Gave s f y
 then_gave {A} {B} s f y e = by s.outcome refl e
