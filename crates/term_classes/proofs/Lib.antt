@@ -5,4 +5,6 @@ pub mod LowestTerms
 pub mod PolynomialValues
 pub mod StepLaws
 pub mod SoughtPolynomials
+pub mod ConstantPowers
+pub mod ConstantValues
 mod KnownClasses
