@@ -7,4 +7,5 @@ pub mod StepLaws
 pub mod SoughtPolynomials
 pub mod ConstantPowers
 pub mod ConstantValues
+pub mod TermProducts
 mod KnownClasses
