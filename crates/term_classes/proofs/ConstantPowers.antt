@@ -36,7 +36,7 @@ module _ (n k : ℤ) where
   and_nothing : (v x : ℤ) → x +ℤ v *ℤ pos 0 ≡ x
   and_nothing v x = ring_z (v ∷ x ∷ []) (search reading_z depth 40 fits 20000) refl
 
-  in_n_value : (xs : List Meaning) (z : ℤ) → constant_in_n xs ≡ Some z → horner number_of n xs ≡ z
+  pub in_n_value : (xs : List Meaning) (z : ℤ) → constant_in_n xs ≡ Some z → horner number_of n xs ≡ z
   in_n_value [] z e = same_Some (pos 0) z e
   in_n_value (c ∷ []) z e = and_nothing n (number_of c) ∙ same_Some (number_of c) z e
   in_n_value (c ∷ d ∷ cs) z e = absurd (none-some z e)

@@ -8,4 +8,5 @@ pub mod SoughtPolynomials
 pub mod ConstantPowers
 pub mod ConstantValues
 pub mod TermProducts
+pub mod FormValues
 mod KnownClasses

@@ -42,13 +42,13 @@ exact_quotient z g divides =
     let r : int_rem z g ≡ pos 0 = abs_nought (int_rem z g) (abs_rem z g ∙ mod-eq-zero_of_dvd (unsigned_abs g) divides) in
     omega (arith, ints, quot-rem z g, r)
 
-turned_size : (b : Bool) (z : ℤ) → unsigned_abs (turned_where b z) ≡ unsigned_abs z
+pub turned_size : (b : Bool) (z : ℤ) → unsigned_abs (turned_where b z) ≡ unsigned_abs z
 turned_size false z = refl
 turned_size true (pos zero) = refl
 turned_size true (pos (suc n)) = refl
 turned_size true (negsuc n) = refl
 
-turned_zero : (b : Bool) (z : ℤ) → turned_where b z ≡ pos 0 → z ≡ pos 0
+pub turned_zero : (b : Bool) (z : ℤ) → turned_where b z ≡ pos 0 → z ≡ pos 0
 turned_zero false z e = e
 turned_zero true z e = omega (arith, ints, e)
 

@@ -1,0 +1,143 @@
+-- The value of the linear form of a polynomial, of its primitive part, and of a whole number that a fraction is.
+use Rattle.std.proofs.Common.{◌≡◌, ◌≢◌, ℕ, zero, suc, ◌+◌, ◌*◌, ◌%◌, ◌<◌, refl, ap, sym, ◌∙◌, List, [], ◌∷◌, Bool, true, false, ◌&&◌, Option, Some, None, arith, subst, true≢false}
+use Rattle.std.proofs.lemmas.Int.{ints, quot-rem, unsigned_abs-mul}
+use Rattle.std.proofs.lemmas.Bool.{cond_both, eqb-true, eq-eqb}
+use Rattle.std.proofs.lemmas.Option.{same_Some, none-some}
+use Rattle.std.proofs.lemmas.Nat.Gcd.{dvd_trans}
+use Rattle.std.proofs.Math.Nat.{mul-mod_left}
+use Rattle.std.specs.Prelude.{ℤ, pos, negsuc, ◌+ℤ◌, ◌*ℤ◌, neg_ℤ, unsigned_abs, if◌then◌else◌, nat_eq}
+use Rattle.std.specs.Int.{◌∣◌}
+use Rattle.std.specs.Int.RustNames.{int_div, int_rem}
+use Rattle.ring_solver.proofs.Integers.{integers}
+use Rattle.ring_solver.proofs.Linear.{cancel, from1, from3}
+use Rattle.ring_solver.proofs.Read.{ring_z, reading_z}
+use Rattle.ring_laws.specs.Meaning.{Meaning, items}
+use Rattle.ring_laws.specs.Wholes.{number_of}
+use Rattle.ring_laws.specs.WholeDomain.{abs_nought}
+use Rattle.ring_laws.proofs.Quotients.{abs_rem}
+use Rattle.poly_laws.specs.Values.{value_at, horner}
+use Rattle.hypergeometric.specs.Fraction.{Fraction, of_whole, undefined_value}
+use Rattle.hypergeometric.specs.LinearForm.{LinearForm, form_value}
+use Rattle.hypergeometric.specs.ProperTerm.{poly_value}
+use Rattle.hypergeometric.specs.TreePolynomial.{constant_in_n}
+use Rattle.hypergeometric.specs.TreeValue.{whole_number_of, at_whole}
+use Rattle.hypergeometric.proofs.FractionLaws.{one_not_zero}
+use Rattle.term_classes.specs.Divisors.{greatest_common_divisor, turned_where}
+use Rattle.term_classes.specs.Forms.{with_numbers, form_of_coefficients, form_of_items, linear_form_of, is_negative_first, content_of_form, primitive_form}
+use Rattle.term_classes.proofs.SameValues.{◌≅◌}
+use Rattle.term_classes.proofs.LowestTerms.{greatest_up_to_divides, greatest_up_to_positive, exact_quotient, turned_size, turned_zero}
+use Rattle.term_classes.proofs.ConstantPowers.{in_n_value}
+
+module _ (n k : ℤ) where
+  no_coefficient : (n k s : ℤ) → pos 0 +ℤ k *ℤ s ≡ pos 0 *ℤ n +ℤ s *ℤ k +ℤ pos 0
+  no_coefficient n k s = ring_z (n ∷ k ∷ s ∷ []) (search reading_z depth 40 fits 20000) refl
+
+  one_coefficient : (n k s c : ℤ) → c +ℤ n *ℤ pos 0 +ℤ k *ℤ s ≡ pos 0 *ℤ n +ℤ s *ℤ k +ℤ c
+  one_coefficient n k s c = ring_z (n ∷ k ∷ s ∷ c ∷ []) (search reading_z depth 40 fits 20000) refl
+
+  two_coefficients : (n k s c d : ℤ) → c +ℤ n *ℤ (d +ℤ n *ℤ pos 0) +ℤ k *ℤ s ≡ d *ℤ n +ℤ s *ℤ k +ℤ c
+  two_coefficients n k s c d = ring_z (n ∷ k ∷ s ∷ c ∷ d ∷ []) (search reading_z depth 40 fits 20000) refl
+
+  -- with s for the value of the coefficient of k
+  coefficients_value : (xs : List Meaning) (s : ℤ) (l : LinearForm) → form_of_coefficients xs (Some s) ≡ Some l
+      → horner number_of n xs +ℤ k *ℤ s ≡ form_value l n k
+  coefficients_value [] s l e = no_coefficient n k s ∙ ap (λ l. form_value l n k) (same_Some (with_numbers (pos 0) s (pos 0)) l e)
+  coefficients_value (c ∷ []) s l e =
+      one_coefficient n k s (number_of c) ∙ ap (λ l. form_value l n k) (same_Some (with_numbers (pos 0) s (number_of c)) l e)
+  coefficients_value (c ∷ d ∷ []) s l e =
+      two_coefficients n k s (number_of c) (number_of d) ∙ ap (λ l. form_value l n k) (same_Some (with_numbers (number_of d) s (number_of c)) l e)
+  coefficients_value (c ∷ d ∷ b ∷ xs) s l e = absurd (none-some l e)
+
+  with_slope : (xs ys : List Meaning) (s : Option ℤ) (l : LinearForm) → constant_in_n ys ≡ s → form_of_coefficients xs s ≡ Some l
+      → horner number_of n xs +ℤ k *ℤ (horner number_of n ys +ℤ k *ℤ pos 0) ≡ form_value l n k
+  with_slope xs ys None l p e = absurd (none-some l e)
+  with_slope xs ys (Some s) l p e =
+      ap (λ z. horner number_of n xs +ℤ k *ℤ (z +ℤ k *ℤ pos 0)) (in_n_value n k ys s p) ∙ ap (λ z. horner number_of n xs +ℤ k *ℤ z) (once k s)
+      ∙ coefficients_value xs s l e
+    where
+      once : (k s : ℤ) → s +ℤ k *ℤ pos 0 ≡ s
+      once k s = ring_z (k ∷ s ∷ []) (search reading_z depth 40 fits 20000) refl
+
+  items_value : (xs : List Meaning) (l : LinearForm) → form_of_items xs ≡ Some l → horner (value_at (n ∷ [])) k xs ≡ form_value l n k
+  items_value [] l e = nothing n k ∙ ap (λ l. form_value l n k) (same_Some (with_numbers (pos 0) (pos 0) (pos 0)) l e)
+    where
+      nothing : (n k : ℤ) → pos 0 ≡ pos 0 *ℤ n +ℤ pos 0 *ℤ k +ℤ pos 0
+      nothing n k = ring_z (n ∷ k ∷ []) (search reading_z depth 40 fits 20000) refl
+  items_value (c ∷ []) l e = coefficients_value (items c) (pos 0) l e
+  items_value (c ∷ d ∷ []) l e = with_slope (items c) (items d) (constant_in_n (items d)) l refl e
+  items_value (c ∷ d ∷ b ∷ xs) l e = absurd (none-some l e)
+
+  -- the value of a polynomial is that of its linear form
+  pub linear_value : (p : Meaning) (l : LinearForm) → linear_form_of (Some p) ≡ Some l → poly_value p n k ≡ form_value l n k
+  linear_value p l e = items_value (items p) l e
+
+-- the greatest common divisor of the numbers of a form
+abbrev divisor_of_form : LinearForm → ℕ
+divisor_of_form f = greatest_common_divisor (unsigned_abs f.k_slope) (greatest_common_divisor (unsigned_abs f.n_slope) (unsigned_abs f.offset))
+
+content_size : (f : LinearForm) → unsigned_abs (content_of_form f) ≡ divisor_of_form f
+content_size f = turned_size (is_negative_first f) (pos (divisor_of_form f))
+
+pub content_not_zero : (f : LinearForm) → content_of_form f ≢ pos 0
+content_not_zero f e =
+    let some : 0 < divisor_of_form f = greatest_up_to_positive (unsigned_abs f.k_slope + greatest_common_divisor (unsigned_abs f.n_slope) (unsigned_abs f.offset))
+        (unsigned_abs f.k_slope) (greatest_common_divisor (unsigned_abs f.n_slope) (unsigned_abs f.offset)) in
+    omega (arith, ints, some, sym (content_size f) ∙ ap unsigned_abs e)
+
+module _ (f : LinearForm) where
+  outer_divides : (divisor_of_form f ∣ unsigned_abs f.k_slope) × (divisor_of_form f ∣ greatest_common_divisor (unsigned_abs f.n_slope) (unsigned_abs f.offset))
+  outer_divides = greatest_up_to_divides (unsigned_abs f.k_slope + greatest_common_divisor (unsigned_abs f.n_slope) (unsigned_abs f.offset))
+      (unsigned_abs f.k_slope) (greatest_common_divisor (unsigned_abs f.n_slope) (unsigned_abs f.offset))
+
+  inner_divides : (greatest_common_divisor (unsigned_abs f.n_slope) (unsigned_abs f.offset) ∣ unsigned_abs f.n_slope)
+      × (greatest_common_divisor (unsigned_abs f.n_slope) (unsigned_abs f.offset) ∣ unsigned_abs f.offset)
+  inner_divides = greatest_up_to_divides (unsigned_abs f.n_slope + unsigned_abs f.offset) (unsigned_abs f.n_slope) (unsigned_abs f.offset)
+
+  by_content : (z : ℤ) → divisor_of_form f ∣ unsigned_abs z → int_div z (content_of_form f) *ℤ content_of_form f ≡ z
+  by_content z d = exact_quotient z (content_of_form f) (subst (λ m. m ∣ unsigned_abs z) (sym (content_size f)) d)
+
+  pub k_slope_times : (primitive_form f).k_slope *ℤ content_of_form f ≡ f.k_slope
+  k_slope_times = by_content f.k_slope outer_divides.0
+
+  pub n_slope_times : (primitive_form f).n_slope *ℤ content_of_form f ≡ f.n_slope
+  n_slope_times = by_content f.n_slope (dvd_trans (divisor_of_form f) outer_divides.1 inner_divides.0)
+
+  pub offset_times : (primitive_form f).offset *ℤ content_of_form f ≡ f.offset
+  offset_times = by_content f.offset (dvd_trans (divisor_of_form f) outer_divides.1 inner_divides.1)
+
+  -- the content times the value of the primitive part
+  pub content_times : (n k : ℤ) → content_of_form f *ℤ form_value (primitive_form f) n k ≡ form_value f n k
+  content_times n k =
+      joined n k (content_of_form f) (primitive_form f).n_slope (primitive_form f).k_slope (primitive_form f).offset
+      ∙ (λ i. n_slope_times i *ℤ n +ℤ k_slope_times i *ℤ k +ℤ offset_times i)
+    where
+      joined : (n k c s t o : ℤ) → c *ℤ (s *ℤ n +ℤ t *ℤ k +ℤ o) ≡ (s *ℤ c) *ℤ n +ℤ (t *ℤ c) *ℤ k +ℤ o *ℤ c
+      joined n k c s t o = ring_z (n ∷ k ∷ c ∷ s ∷ t ∷ o ∷ []) (search reading_z depth 40 fits 20000) refl
+
+-- the whole number of a fraction that has the value of one
+whole_found : (f : Fraction) (z : ℤ) → f ≅ of_whole z → whole_number_of f ≡ Some z
+whole_found f z e =
+    cond_both (nat_eq (unsigned_abs f.bottom) 0) None (if nat_eq (unsigned_abs (int_rem f.top f.bottom)) 0 then Some (int_div f.top f.bottom) else None) (λ o. o ≡ Some z)
+    (λ h. absurd (defined (abs_nought f.bottom (eqb-true (unsigned_abs f.bottom) 0 h))))
+    (λ h. cond_both (nat_eq (unsigned_abs (int_rem f.top f.bottom)) 0) (Some (int_div f.top f.bottom)) None (λ o. o ≡ Some z)
+    (λ g. ap Some quotient) (λ g. absurd (true≢false (sym (eq-eqb (unsigned_abs (int_rem f.top f.bottom)) 0 rest) ∙ g))))
+  where
+    defined : f.bottom ≢ pos 0
+    defined h = one_not_zero (e.zero_right h)
+
+    multiple : f.top ≡ z *ℤ f.bottom
+    multiple = sym (once f.top) ∙ e.cross
+      where
+        once : (t : ℤ) → t *ℤ pos 1 ≡ t
+        once t = ring_z (t ∷ []) (search reading_z depth 40 fits 20000) refl
+
+    rest : unsigned_abs (int_rem f.top f.bottom) ≡ 0
+    rest = abs_rem f.top f.bottom ∙ ap (λ t. unsigned_abs t % unsigned_abs f.bottom) multiple
+        ∙ ap (λ m. m % unsigned_abs f.bottom) (unsigned_abs-mul z f.bottom) ∙ mul-mod_left (unsigned_abs z) (unsigned_abs f.bottom)
+
+    quotient : int_div f.top f.bottom ≡ z
+    quotient = cancel f.bottom (int_div f.top f.bottom) z defined
+        (omega (arith, ints, quot-rem f.top f.bottom, abs_nought (int_rem f.top f.bottom) rest) ∙ multiple)
+
+pub at_whole_value : (g : ℤ → Fraction) (f : Fraction) (z : ℤ) → f ≅ of_whole z → at_whole g f ≡ g z
+at_whole_value g f z e = ap (λ o. elim o as (λ _. Fraction) [ Some z ↦ g z | None ↦ undefined_value ]) (whole_found f z e)
