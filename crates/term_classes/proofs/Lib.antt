@@ -9,4 +9,5 @@ pub mod ConstantPowers
 pub mod ConstantValues
 pub mod TermProducts
 pub mod FormValues
+pub mod WalkRows
 mod KnownClasses

@@ -13,7 +13,7 @@ pub record Gave {A B : Type 0} (s : Steps A) (f : A → Steps B) (y : B) : Type 
   pub first : s.outcome ≡ Ok value
   pub second : (f value).outcome ≡ Ok y
 
-not_refused : {A : Type 0} (r : Refusal) (y : A) → Err r ≡ Ok y → ⊥
+pub not_refused : {A : Type 0} (r : Refusal) (y : A) → Err r ≡ Ok y → ⊥
 not_refused r y e = cc
 
 pub same_Ok : {A : Type 0} (x y : A) → (gives x).outcome ≡ Ok y → x ≡ y

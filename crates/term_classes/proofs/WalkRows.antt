@@ -1,0 +1,111 @@
+-- What each row of the walk over a tree does to the value of a term.
+use Rattle.std.proofs.Common.{◌≡◌, ◌≢◌, ℕ, zero, suc, ◌+◌, refl, ap, sym, ◌∙◌, List, [], ◌∷◌, Bool, true, false, Option, Some, None, subst}
+use Rattle.std.proofs.lemmas.Option.{same_Some, none-some}
+use Rattle.std.specs.Prelude.{ℤ, pos, negsuc, ◌+ℤ◌, ◌-ℤ◌, ◌*ℤ◌, neg_ℤ, unsigned_abs, int_lt, if◌then◌else◌, Ok}
+use Rattle.ring_solver.proofs.Read.{ring_z, reading_z}
+use Rattle.ring_laws.specs.Meaning.{Meaning, items}
+use Rattle.hypergeometric.specs.Fraction.{Fraction, of_whole, fraction_difference, fraction_product, fraction_inverse, natural_power, whole_power}
+use Rattle.hypergeometric.specs.LinearForm.{LinearForm, form_value}
+use Rattle.hypergeometric.specs.ProperTerm.{ProperTerm, poly_value, IsNonzero, HasFractions}
+use Rattle.hypergeometric.specs.Tree.{Tree}
+use Rattle.hypergeometric.specs.TreePolynomial.{in_n_and_k, poly_power, constant_in_k, tree_polynomial}
+use Rattle.hypergeometric.specs.TreeValue.{tree_value, factorial_power, at_whole}
+use Rattle.hypergeometric.specs.TermFacts.{total_power}
+use Rattle.hypergeometric.proofs.FractionLaws.{one_not_zero}
+use Rattle.hypergeometric.proofs.PlainTerms.{difference_of_wholes}
+use Rattle.lin_form.specs.FactorLists as lists
+use Rattle.term_classes.specs.Refusals.{improper, factors_limit}
+use Rattle.term_classes.specs.Steps.{Steps, of_number, gives, makes, refuses, within_limit, ◌then◌}
+use Rattle.term_classes.specs.Divisors.{lowest_terms, raised_fraction}
+use Rattle.term_classes.specs.Forms.{is_zero, linear_form_of, is_negative_constant, form_difference, difference_size, content_of_form, primitive_form, limited_form}
+use Rattle.term_classes.specs.Sought.{polynomial_sought}
+use Rattle.term_classes.specs.Walk.{with_lists, with_scale, with_poly, place_of, times_power, few_factors, with_factorial, with_denominator, times_number, times_polynomial, times_sought, form_or_refused, argument_sought, not_negative, times_exponential, times_binomial}
+use Rattle.term_classes.proofs.SameValues.{◌≅◌, same, same_itself, same_chain, same_turned, same_products, same_sums, same_negatives}
+use Rattle.term_classes.proofs.FractionPowers.{product_comm, product_one, whole_power_of_product}
+use Rattle.term_classes.proofs.NonzeroPowers.{power_at_sum}
+use Rattle.term_classes.proofs.StepLaws.{Gave, then_gave, same_Ok, limit_gave, not_refused}
+use Rattle.term_classes.proofs.PolynomialValues.{tree_has, value_of_power}
+use Rattle.term_classes.proofs.SoughtPolynomials.{sought_is}
+use Rattle.term_classes.proofs.ConstantPowers.{constant_value, not_zero}
+use Rattle.term_classes.proofs.TermProducts.{IsTimes, times_both, times_same, scale_times, poly_times, n_base_times, k_base_times, up_times, down_times, over_times}
+use Rattle.term_classes.proofs.FormValues.{linear_value, content_not_zero, content_times, at_whole_value}
+
+pub few_same : (s s' : ProperTerm) → (few_factors s).outcome ≡ Ok s' → s ≡ s'
+few_same s s' e = (limit_gave factors_limit 24 (total_power s.up + total_power s.down + total_power s.over) s s' e).same
+
+-- a factorial, above or below
+pub factorial_row : (l : LinearForm) (w : ℤ) (s s' : ProperTerm) → HasFractions s → (with_factorial l w s).outcome ≡ Ok s'
+    → IsTimes s s' (λ n k. factorial_power w (form_value l n k))
+factorial_row l (pos w) s s' h e =
+    subst (λ t. IsTimes s t (λ n k. factorial_power (pos w) (form_value l n k))) (few_same (with_lists (lists.with_factor l w s.up) s.down s.over s.guard s) s' e)
+    (up_times s h l w)
+factorial_row l (negsuc w) s s' h e =
+    subst (λ t. IsTimes s t (λ n k. factorial_power (negsuc w) (form_value l n k)))
+    (few_same (with_lists s.up (lists.with_factor l (suc w) s.down) s.over s.guard s) s' e) (down_times s h l (suc w))
+
+whole_nonzero : (z : ℤ) → z ≢ pos 0 → IsNonzero (of_whole z)
+whole_nonzero z n = record { top = n; bottom = one_not_zero }
+
+-- one over a form
+denominator_row : (at : ℕ) (l : LinearForm) (w : ℕ) (s s' : ProperTerm) → HasFractions s → (with_denominator at l (suc w) s).outcome ≡ Ok s'
+    → IsTimes s s' (λ n k. whole_power (of_whole (form_value l n k)) (negsuc w))
+denominator_row at l w s s' h e =
+    let t : ProperTerm = with_lists s.up s.down (lists.with_factor (primitive_form l) (suc w) s.over) s.guard s in
+    let g = then_gave (few_factors t) (λ g. times_power at g.scale (of_whole (content_of_form l)) (negsuc w) then (λ s. gives (with_scale s g))) s' e in
+    let over = subst (λ t. IsTimes s t (λ n k. natural_power (fraction_inverse (of_whole (form_value (primitive_form l) n k))) (suc w))) (few_same t g.value g.first)
+        (over_times s h (primitive_form l) (suc w)) in
+    let scaled = scale_times g.value over.fractions (of_whole (content_of_form l)) (negsuc w) (whole_nonzero (content_of_form l) (content_not_zero l)) in
+    times_same s s' (λ n k. fraction_product (whole_power (of_whole (form_value (primitive_form l) n k)) (negsuc w)) (whole_power (of_whole (content_of_form l)) (negsuc w)))
+    (λ n k. whole_power (of_whole (form_value l n k)) (negsuc w))
+    (subst (λ t. IsTimes s t (λ n k. fraction_product (whole_power (of_whole (form_value (primitive_form l) n k)) (negsuc w)) (whole_power (of_whole (content_of_form l)) (negsuc w))))
+    (same_Ok (with_scale (lowest_terms (fraction_product g.value.scale (raised_fraction (of_whole (content_of_form l)) (negsuc w)))) g.value) s' g.second)
+    (times_both s g.value (with_scale (lowest_terms (fraction_product g.value.scale (raised_fraction (of_whole (content_of_form l)) (negsuc w)))) g.value)
+    (λ n k. natural_power (fraction_inverse (of_whole (form_value (primitive_form l) n k))) (suc w)) (λ n k. whole_power (of_whole (content_of_form l)) (negsuc w)) over scaled))
+    (λ n k. same (product_comm (whole_power (of_whole (form_value (primitive_form l) n k)) (negsuc w)) (whole_power (of_whole (content_of_form l)) (negsuc w))
+    ∙ sym (whole_power_of_product (of_whole (content_of_form l)) (of_whole (form_value (primitive_form l) n k)) (negsuc w))
+    ∙ ap (λ z. whole_power (of_whole z) (negsuc w)) (content_times l n k)))
+
+-- a number
+number_row : (at : ℕ) (z w : ℤ) (s s' : ProperTerm) → HasFractions s → (times_number at z w s).outcome ≡ Ok s' → IsTimes s s' (λ n k. whole_power (of_whole z) w)
+number_row at z w s s' h e = by (is_zero z) refl e
+  where
+    by : (b : Bool) → is_zero z ≡ b → (if b then refuses (improper (if int_lt w (pos 0) then 3 else 7) at)
+        else (times_power at s.scale (of_whole z) w then (λ t. gives (with_scale t s)))).outcome ≡ Ok s' → IsTimes s s' (λ n k. whole_power (of_whole z) w)
+    by true p q = absurd (not_refused (improper (if int_lt w (pos 0) then 3 else 7) at) s' q)
+    by false p q = subst (λ t. IsTimes s t (λ n k. whole_power (of_whole z) w))
+        (same_Ok (with_scale (lowest_terms (fraction_product s.scale (raised_fraction (of_whole z) w))) s) s' q)
+        (scale_times s h (of_whole z) w (whole_nonzero z (not_zero z p)))
+
+-- a polynomial that is no number
+polynomial_row : (at : ℕ) (p : Meaning) (w : ℤ) (s s' : ProperTerm) → HasFractions s → (times_polynomial at p w s).outcome ≡ Ok s'
+    → IsTimes s s' (λ n k. whole_power (of_whole (poly_value p n k)) w)
+polynomial_row at p (pos w) s s' h e =
+    subst (λ t. IsTimes s t (λ n k. whole_power (of_whole (poly_value p n k)) (pos w)))
+    (same_Ok (with_poly (in_n_and_k.product s.poly (poly_power p w)) s) s' e)
+    (times_same s (with_poly (in_n_and_k.product s.poly (poly_power p w)) s) (λ n k. of_whole (poly_value (poly_power p w) n k)) (λ n k. whole_power (of_whole (poly_value p n k)) (pos w))
+    (poly_times s h (poly_power p w)) (λ n k. same (value_of_power n k p w)))
+polynomial_row at p (negsuc w) s s' h e = by (linear_form_of (Some p)) refl e
+  where
+    by : (o : Option LinearForm) → linear_form_of (Some p) ≡ o → (elim o as (λ _. Steps ProperTerm) [
+      | None ↦ refuses (improper 3 at)
+      | Some l ↦ limited_form l then (λ l1. with_denominator at l (suc w) s)
+    ]).outcome ≡ Ok s' → IsTimes s s' (λ n k. whole_power (of_whole (poly_value p n k)) (negsuc w))
+    by None q f = absurd (not_refused (improper 3 at) s' f)
+    by (Some l) q f =
+        let g = then_gave (limited_form l) (λ l1. with_denominator at l (suc w) s) s' f in
+        times_same s s' (λ n k. whole_power (of_whole (form_value l n k)) (negsuc w)) (λ n k. whole_power (of_whole (poly_value p n k)) (negsuc w))
+        (denominator_row at l w s s' h g.second) (λ n k. same (ap (λ z. whole_power (of_whole z) (negsuc w)) (sym (linear_value n k p l q))))
+
+-- a literal, n, k or a sum, where a polynomial is found
+pub sought_row : (at : ℕ) (w : ℤ) (s s' : ProperTerm) (p : Option Meaning) → HasFractions s → (times_sought at w s p).outcome ≡ Ok s' → (v : ℤ → ℤ → Fraction)
+    → ((q : Meaning) → p ≡ Some q → (n k : ℤ) → v n k ≅ whole_power (of_whole (poly_value q n k)) w) → IsTimes s s' v
+sought_row at w s s' None h e v f = absurd (not_refused (improper 6 at) s' e)
+sought_row at w s s' (Some q) h e v f = by (constant_in_k (items q)) refl e
+  where
+    by : (c : Option ℤ) → constant_in_k (items q) ≡ c → (elim c as (λ _. Steps ProperTerm) [
+      | Some z ↦ times_number at z w s
+      | None ↦ times_polynomial at q w s
+    ]).outcome ≡ Ok s' → IsTimes s s' v
+    by (Some z) p g = times_same s s' (λ n k. whole_power (of_whole z) w) v (number_row at z w s s' h g)
+        (λ n k. same_turned (same_chain (f q refl n k) (same (ap (λ z. whole_power (of_whole z) w) (constant_value n k q z p)))))
+    by None p g = times_same s s' (λ n k. whole_power (of_whole (poly_value q n k)) w) v (polynomial_row at q w s s' h g) (λ n k. same_turned (f q refl n k))
