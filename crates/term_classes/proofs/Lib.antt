@@ -10,4 +10,5 @@ pub mod ConstantValues
 pub mod TermProducts
 pub mod FormValues
 pub mod WalkRows
+pub mod ArgumentRows
 mod KnownClasses
