@@ -11,4 +11,5 @@ pub mod TermProducts
 pub mod FormValues
 pub mod WalkRows
 pub mod ArgumentRows
+pub mod WalkValues
 mod KnownClasses
