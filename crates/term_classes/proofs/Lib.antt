@@ -12,4 +12,5 @@ pub mod FormValues
 pub mod WalkRows
 pub mod ArgumentRows
 pub mod WalkValues
+pub mod SharedForms
 mod KnownClasses
