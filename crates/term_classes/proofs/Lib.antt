@@ -13,4 +13,5 @@ pub mod WalkRows
 pub mod ArgumentRows
 pub mod WalkValues
 pub mod SharedForms
+pub mod SharedProducts
 mod KnownClasses

@@ -1,5 +1,5 @@
 -- Lists of forms, the forms that two of them share, and what is left of one without them.
-use Rattle.std.proofs.Common.{◌≡◌, ◌≢◌, ℕ, zero, suc, ◌+◌, ◌-◌, ◌≤◌, min, refl, ap, sym, ◌∙◌, List, [], ◌∷◌, Bool, true, false, cond, arith, subst, true≢false}
+use Rattle.std.proofs.Common.{◌≡◌, ◌≢◌, ℕ, zero, suc, ◌+◌, ◌-◌, ◌≤◌, min, refl, ap, sym, ◌∙◌, List, [], ◌∷◌, Bool, true, false, cond, arith, subst, true≢false, ◌⊎◌, inl, inr}
 use Rattle.std.proofs.lemmas.Bool.{cond_both, eqb-true, eq-eqb}
 use Rattle.std.specs.Prelude.{if◌then◌else◌, nat_eq}
 use Rattle.std.specs.List.{AllByRecursion}
@@ -39,6 +39,13 @@ pub power_by : (P : ℕ → Type 0) (f : LinearForm) (x : Factor) (xs : List Fac
 power_by P f x xs here later =
     cond_both (same_form f x.form) x.power (power_of f xs) P (λ e. here (same_form_found f x.form e))
     (λ e. later (λ same. true≢false (sym (same_form_itself f x.form same) ∙ e)))
+
+pub same_or_other : (f g : LinearForm) → (f ≡ g) ⊎ (f ≢ g)
+same_or_other f g = by (same_form f g) refl
+  where
+    by : (b : Bool) → same_form f g ≡ b → (f ≡ g) ⊎ (f ≢ g)
+    by true e = inl (same_form_found f g e)
+    by false e = inr (λ s. true≢false (sym (same_form_itself f g s) ∙ e))
 
 pub absent_power : (f : LinearForm) (xs : List Factor) → IsAbsent f xs → power_of f xs ≡ 0
 absent_power f [] h = refl
