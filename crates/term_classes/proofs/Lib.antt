@@ -14,4 +14,5 @@ pub mod ArgumentRows
 pub mod WalkValues
 pub mod SharedForms
 pub mod SharedProducts
+pub mod CancelledValues
 mod KnownClasses

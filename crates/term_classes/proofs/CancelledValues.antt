@@ -1,0 +1,197 @@
+-- Cancelling factorials that stand above and below, and guarding them, changes neither the value of a term nor where it is defined.
+use Rattle.std.proofs.Common.{◌≡◌, ◌≢◌, ℕ, zero, suc, ◌-◌, ◌<◌, ◌≤◌, refl, ap, sym, ◌∙◌, List, [], ◌∷◌, arith, subst, ⊎_elim, inl, inr}
+use Rattle.std.proofs.lemmas.Int.{ints}
+use Rattle.std.specs.Prelude.{ℤ, pos, negsuc, ◌*ℤ◌, ◌≤ℤ◌, ◌↔◌}
+use Rattle.std.specs.List.{AllByRecursion}
+use Rattle.ring_solver.proofs.Read.{ring_z, reading_z}
+use Rattle.hypergeometric.specs.Fraction.{Fraction, IsDefined, ◌≈◌, of_whole, fraction_product, fraction_inverse, natural_power, whole_power}
+use Rattle.hypergeometric.specs.LinearForm.{LinearForm, Factor, form_value, factorial, factorial_value, inverse_factorial_value, product_over}
+use Rattle.hypergeometric.specs.FormOrder.{NoFormTwice}
+use Rattle.hypergeometric.specs.ProperTerm.{ProperTerm, NoneNegative, NoneZero, IsDefinedAt, poly_value, proper_value, HasFractions}
+use Rattle.hypergeometric.proofs.FractionLaws.{one_not_zero}
+use Rattle.hypergeometric.proofs.Definedness.{proper_value_defined}
+use Rattle.lin_form.specs.FactorLists.{factor_with, power_of}
+use Rattle.term_classes.specs.ClassValues.{HasValue}
+use Rattle.term_classes.specs.Walk.{with_lists, in_both, without, cancelled}
+use Rattle.term_classes.proofs.SameValues.{◌≅◌, same, same_itself, same_chain, same_turned, same_products, same_equal, times_zero, zero_times}
+use Rattle.term_classes.proofs.FractionPowers.{fraction_same, product_one, one_product, products_exchange, power_of_product}
+use Rattle.term_classes.proofs.SharedForms.{AllSome, all_more, power_here, power_by, own_powers, both_forms, both_distinct, both_in_first, both_in_second, both_below_first, both_below_second, both_some, without_forms, without_by}
+use Rattle.term_classes.proofs.SharedProducts.{AtMost, product_parts}
+
+-- a defined product has defined factors
+left_defined : (f g : Fraction) → IsDefined (fraction_product f g) → IsDefined f
+left_defined f g d z = d (ap (λ b. b *ℤ g.bottom) z ∙ zero_times g.bottom)
+
+right_defined : (f g : Fraction) → IsDefined (fraction_product f g) → IsDefined g
+right_defined f g d z = d (ap (λ b. f.bottom *ℤ b) z ∙ times_zero f.bottom)
+
+base_defined : (f : Fraction) (power : ℕ) → 1 ≤ power → IsDefined (natural_power f power) → IsDefined f
+base_defined f zero h d = absurd (omega (arith, h))
+base_defined f (suc m) h d = left_defined f (natural_power f m) d
+
+factorial_natural : (z : ℤ) → IsDefined (factorial_value z) → pos 0 ≤ℤ z
+factorial_natural (pos m) d = omega (arith, ints)
+factorial_natural (negsuc m) d = absurd (d refl)
+
+inverse_not_zero : (z : ℤ) → IsDefined (fraction_inverse (of_whole z)) → z ≢ pos 0
+inverse_not_zero z d e = d (ap (λ z. z *ℤ pos 1) e ∙ zero_times (pos 1))
+
+module _ (n k : ℤ) where
+  up_natural : (xs : List Factor) → AllSome xs → IsDefined (product_over factorial_value xs n k) → NoneNegative xs n k
+  up_natural [] h d = tt
+  up_natural (x ∷ xs) h d = (
+    factorial_natural (form_value x.form n k) (base_defined (factorial_value (form_value x.form n k)) x.power h.0
+        (left_defined (natural_power (factorial_value (form_value x.form n k)) x.power) (product_over factorial_value xs n k) d)),
+    up_natural xs h.1 (right_defined (natural_power (factorial_value (form_value x.form n k)) x.power) (product_over factorial_value xs n k) d),
+  )
+
+  over_not_zero : (xs : List Factor) → AllSome xs → IsDefined (product_over (λ z. fraction_inverse (of_whole z)) xs n k) → NoneZero xs n k
+  over_not_zero [] h d = tt
+  over_not_zero (x ∷ xs) h d =
+      let first : Fraction = fraction_inverse (of_whole (form_value x.form n k)) in
+      let rest : Fraction = product_over (λ z. fraction_inverse (of_whole z)) xs n k in (
+        inverse_not_zero (form_value x.form n k) (base_defined first x.power h.0 (left_defined (natural_power first x.power) rest d)),
+        over_not_zero xs h.1 (right_defined (natural_power first x.power) rest d),
+      )
+
+  -- where the value of a term with powers of at least 1 is defined
+  pub value_defined : (s : ProperTerm) → AllSome s.up → AllSome s.over → IsDefined (proper_value s n k) → NoneNegative s.up n k × NoneZero s.over n k
+  value_defined s up over d =
+      let over_value : Fraction = product_over (λ z. fraction_inverse (of_whole z)) s.over n k in
+      let down_value : Fraction = product_over inverse_factorial_value s.down n k in
+      let up_value : Fraction = product_over factorial_value s.up n k in
+      let lists : Fraction = fraction_product up_value (fraction_product down_value over_value) in
+      let k_power : Fraction = whole_power s.k_base k in
+      let n_power : Fraction = whole_power s.n_base n in
+      let p : Fraction = of_whole (poly_value s.poly n k) in
+      let defined : IsDefined lists = right_defined k_power lists (right_defined n_power (fraction_product k_power lists)
+          (right_defined p (fraction_product n_power (fraction_product k_power lists))
+          (right_defined s.scale (fraction_product p (fraction_product n_power (fraction_product k_power lists))) d))) in
+      (up_natural s.up up (left_defined up_value (fraction_product down_value over_value) defined),
+      over_not_zero s.over over (right_defined down_value over_value (right_defined up_value (fraction_product down_value over_value) defined)))
+
+  abbrev IsNatural : Factor → Type 0
+  IsNatural x = pos 0 ≤ℤ form_value x.form n k
+
+  none_to_all : (xs : List Factor) → NoneNegative xs n k → AllByRecursion IsNatural xs
+  none_to_all [] h = tt
+  none_to_all (x ∷ xs) h = (h.0, none_to_all xs h.1)
+
+  all_to_none : (xs : List Factor) → AllByRecursion IsNatural xs → NoneNegative xs n k
+  all_to_none [] h = tt
+  all_to_none (x ∷ xs) h = (h.0, all_to_none xs h.1)
+
+  -- a form that stands in a list without negative values
+  natural_in : (f : LinearForm) (ys : List Factor) → 1 ≤ power_of f ys → NoneNegative ys n k → pos 0 ≤ℤ form_value f n k
+  natural_in f [] some h = absurd (omega (arith, some))
+  natural_in f (y ∷ ys) some h = power_by (λ m. 1 ≤ m → pos 0 ≤ℤ form_value f n k) f y ys
+      (λ e s. subst (λ g. pos 0 ≤ℤ form_value g n k) (sym e) h.0) (λ e s. natural_in f ys s h.1) some
+
+  -- what is left and what was taken aren't negative, so nothing is
+  parts_natural : (xs ys : List Factor) → AllSome xs → NoneNegative (without xs ys) n k → NoneNegative ys n k → NoneNegative xs n k
+  parts_natural [] ys some left taken = tt
+  parts_natural (x ∷ xs) ys some left taken = without_by (λ zs. NoneNegative zs n k → NoneNegative (x ∷ xs) n k) x xs ys
+      (λ e h. (natural_in x.form ys (omega (arith, e, some.0)) taken, parts_natural xs ys some.1 h taken))
+      (λ e h. (h.0, parts_natural xs ys some.1 h.1 taken)) left
+
+  -- m! times 1/m!
+  factorial_positive : (m : ℕ) → 0 < factorial m
+  factorial_positive zero = omega arith
+  factorial_positive (suc m) = grind (arith, factorial_positive m)
+
+  factorial_cancels : (z : ℤ) → pos 0 ≤ℤ z → fraction_product (factorial_value z) (inverse_factorial_value z) ≅ of_whole (pos 1)
+  factorial_cancels (negsuc m) h = absurd (omega (arith, ints, h))
+  factorial_cancels (pos m) h = record {
+    zero_right = λ z. absurd (omega (arith, ints, factorial_positive m, sym (once (pos (factorial m))) ∙ z));
+    zero_left = λ z. absurd (one_not_zero z);
+    cross = cancels (pos (factorial m));
+  }
+    where
+      once : (f : ℤ) → pos 1 *ℤ f ≡ f
+      once f = ring_z (f ∷ []) (search reading_z depth 40 fits 20000) refl
+
+      cancels : (f : ℤ) → f *ℤ pos 1 *ℤ pos 1 ≡ pos 1 *ℤ (pos 1 *ℤ f)
+      cancels f = ring_z (f ∷ []) (search reading_z depth 40 fits 20000) refl
+
+  one_power : (f : Fraction) (m : ℕ) → f ≅ of_whole (pos 1) → natural_power f m ≅ of_whole (pos 1)
+  one_power f zero e = same_itself (of_whole (pos 1))
+  one_power f (suc m) e = same_chain (same_products e (one_power f m e)) (same (one_product (of_whole (pos 1))))
+
+  -- factorials above and below cancel where no argument is negative
+  lists_cancel : (xs : List Factor) → NoneNegative xs n k
+      → fraction_product (product_over factorial_value xs n k) (product_over inverse_factorial_value xs n k) ≅ of_whole (pos 1)
+  lists_cancel [] h = same (one_product (of_whole (pos 1)))
+  lists_cancel (x ∷ xs) h =
+      let u : Fraction = factorial_value (form_value x.form n k) in
+      let d : Fraction = inverse_factorial_value (form_value x.form n k) in
+      same_chain (same (products_exchange (natural_power u x.power) (product_over factorial_value xs n k) (natural_power d x.power) (product_over inverse_factorial_value xs n k)))
+      (same_chain (same_products (same_chain (same (sym (power_of_product u d x.power))) (one_power (fraction_product u d) x.power (factorial_cancels (form_value x.form n k) h.0)))
+      (lists_cancel xs h.1)) (same (one_product (of_whole (pos 1)))))
+
+  regrouped : (u b d c o : Fraction) → fraction_product (fraction_product u b) (fraction_product (fraction_product d c) o)
+      ≡ fraction_product (fraction_product u (fraction_product d o)) (fraction_product b c)
+  regrouped u b d c o = fraction_same (law u.top b.top d.top c.top o.top) (law u.bottom b.bottom d.bottom c.bottom o.bottom)
+    where
+      law : (u b d c o : ℤ) → (u *ℤ b) *ℤ ((d *ℤ c) *ℤ o) ≡ (u *ℤ (d *ℤ o)) *ℤ (b *ℤ c)
+      law u b d c o = ring_z (u ∷ b ∷ d ∷ c ∷ o ∷ []) (search reading_z depth 40 fits 20000) refl
+
+-- the shared forms of a list have powers no greater than in it
+at_most_own : (xs bs : List Factor) → NoFormTwice xs → ((f : LinearForm) → power_of f bs ≤ power_of f xs) → AllByRecursion (λ x. power_of x.form bs ≤ x.power) xs
+at_most_own xs bs h below = all_more (λ x. power_of x.form xs ≡ x.power) (λ x. power_of x.form bs ≤ x.power) (λ x e. subst (λ m. power_of x.form bs ≤ m) e (below x.form)) xs (own_powers xs h)
+
+-- what cancelling needs of a term
+pub record CanCancel (s : ProperTerm) : Type 0 where
+  pub fractions : HasFractions s
+  pub up : NoFormTwice s.up
+  pub down : NoFormTwice s.down
+  pub up_some : AllSome s.up
+  pub over_some : AllSome s.over
+
+module _ (s : ProperTerm) (h : CanCancel s) where
+  abbrev shared : List Factor
+  shared = in_both s.up s.down
+
+  module _ (n k : ℤ) where
+    cancelled_defined : IsDefinedAt (cancelled s) n k → IsDefined (proper_value s n k)
+    cancelled_defined d = proper_value_defined (with_lists s.up s.down s.over [] s) n k
+        (record { scale = h.fractions.scale; n_base = h.fractions.n_base; k_base = h.fractions.k_base })
+        (record { up = parts_natural n k s.up shared h.up_some d.up d.guard; guard = tt; over = d.over })
+
+    defined_cancelled : IsDefined (proper_value s n k) → IsDefinedAt (cancelled s) n k
+    defined_cancelled d =
+        let v = value_defined n k s h.up_some h.over_some d in
+        let all = none_to_all n k s.up v.0 in
+        record {
+          up = all_to_none n k (without s.up shared) (without_forms (λ f. pos 0 ≤ℤ form_value f n k) s.up shared all);
+          guard = all_to_none n k shared (both_forms (λ f. pos 0 ≤ℤ form_value f n k) s.up s.down all);
+          over = v.1;
+        }
+
+    lists_same : IsDefinedAt (cancelled s) n k
+        → fraction_product (product_over factorial_value s.up n k) (fraction_product (product_over inverse_factorial_value s.down n k) (product_over (λ z. fraction_inverse (of_whole z)) s.over n k))
+        ≅ fraction_product (product_over factorial_value (without s.up shared) n k) (fraction_product (product_over inverse_factorial_value (without s.down shared) n k) (product_over (λ z. fraction_inverse (of_whole z)) s.over n k))
+    lists_same d =
+        let distinct : NoFormTwice shared = both_distinct s.up s.down h.up in
+        let up_parts = product_parts factorial_value n k s.up shared h.up distinct (both_in_first s.up s.down h.up_some)
+            (at_most_own s.up shared h.up (λ f. both_below_first f s.up s.down h.up)) in
+        let down_parts = product_parts inverse_factorial_value n k s.down shared h.down distinct (both_in_second s.up s.down)
+            (at_most_own s.down shared h.down (λ f. both_below_second f s.up s.down)) in
+        let over_value : Fraction = product_over (λ z. fraction_inverse (of_whole z)) s.over n k in
+        let u : Fraction = product_over factorial_value (without s.up shared) n k in
+        let v : Fraction = product_over inverse_factorial_value (without s.down shared) n k in
+        same_chain (same (λ i. fraction_product (up_parts i) (fraction_product (down_parts i) over_value)))
+        (same_chain (same (regrouped n k u (product_over factorial_value shared n k) v (product_over inverse_factorial_value shared n k) over_value))
+        (same_chain (same_products (same_itself (fraction_product u (fraction_product v over_value))) (lists_cancel n k shared d.guard))
+        (same (product_one (fraction_product u (fraction_product v over_value))))))
+
+    value_same : IsDefinedAt (cancelled s) n k → proper_value s n k ≅ proper_value (cancelled s) n k
+    value_same d = same_products (same_itself s.scale) (same_products (same_itself (of_whole (poly_value s.poly n k)))
+        (same_products (same_itself (whole_power s.n_base n)) (same_products (same_itself (whole_power s.k_base k)) (lists_same d))))
+
+  -- the cancelled term has the value of the term
+  pub cancelled_has : HasValue (cancelled s) (proper_value s)
+  cancelled_has = record {
+    defined = λ n k. (cancelled_defined n k, defined_cancelled n k);
+    equal = λ n k d. same_equal (same_turned (value_same n k d))
+        (λ z. cancelled_defined n k d ((value_same n k d).zero_left z));
+  }
