@@ -15,4 +15,5 @@ pub mod WalkValues
 pub mod SharedForms
 pub mod SharedProducts
 pub mod CancelledValues
+pub mod PassingPolynomials
 mod KnownClasses

@@ -49,7 +49,7 @@ abbrev NodeIsPower : Meaning → Node → Type 0
 NodeIsPower p node = (w n k : ℤ) → node_value node w n k ≅ whole_power (of_whole (poly_value p n k)) w
 
 -- what follows from both, where there are both
-from_combined : (P Q R : Meaning → Type 0) (op : Meaning → Meaning → Meaning) (a b : Option Meaning) (p : Meaning) → combined op a b ≡ Some p
+pub from_combined : (P Q R : Meaning → Type 0) (op : Meaning → Meaning → Meaning) (a b : Option Meaning) (p : Meaning) → combined op a b ≡ Some p
     → ((x : Meaning) → a ≡ Some x → P x) → ((y : Meaning) → b ≡ Some y → Q y) → ((x y : Meaning) → P x → Q y → R (op x y)) → R p
 from_combined P Q R op (Some x) (Some y) p e f g h = subst R (same_Some (op x y) p e) (h x y (f x refl) (g y refl))
 from_combined P Q R op (Some x) None p e f g h = absurd (none-some p e)
@@ -99,7 +99,7 @@ natural_exponent base y c h w n k =
     (λ e. same_chain (h (w *ℤ pos c) n k) (same (ap (whole_power (of_whole (poly_value y n k))) (*ℤ_comm w (pos c))
     ∙ sym (natural_then_whole (of_whole (poly_value y n k)) c w) ∙ ap (λ f. whole_power f w) (sym (value_of_power n k y c)))))
 
-unless : (b : Bool) (x p : Meaning) → (if b then None else Some x) ≡ Some p → x ≡ p
+pub unless : (b : Bool) (x p : Meaning) → (if b then None else Some x) ≡ Some p → x ≡ p
 unless true x p e = absurd (none-some p e)
 unless false x p e = same_Some x p e
 
