@@ -89,16 +89,16 @@ pub skipped : {A B : Type 0} (s : Steps A) (t : Steps B) (y : B) → (s then (λ
 skipped s t y e = (then_gave s (λ x. t) y e).second
 
 -- what a binomial coefficient multiplies by, once its arguments are found
-abbrev three_factorials : LinearForm → LinearForm → LinearForm → ℤ → ProperTerm → Steps ProperTerm
+abbrev pub three_factorials : LinearForm → LinearForm → LinearForm → ℤ → ProperTerm → Steps ProperTerm
 three_factorials l m d w f = with_factorial l w f then (λ g. with_factorial m (neg_ℤ w) g then (λ h. with_factorial d (neg_ℤ w) h))
 
-abbrev limits_tested : LinearForm → LinearForm → LinearForm → ℤ → ProperTerm → Steps ProperTerm
+abbrev pub limits_tested : LinearForm → LinearForm → LinearForm → ℤ → ProperTerm → Steps ProperTerm
 limits_tested l m d w f = limited_form l then (λ l2. limited_form m then (λ m2. limited_form d then (λ d2. three_factorials l m d w f)))
 
-abbrev difference_made : ℕ → LinearForm → LinearForm → ℤ → ProperTerm → Steps ProperTerm
+abbrev pub difference_made : ℕ → LinearForm → LinearForm → ℤ → ProperTerm → Steps ProperTerm
 difference_made at l m w f = makes at (of_number (difference_size l m)) (form_difference l m) then (λ d. not_negative at d then (λ d1. limits_tested l m d w f))
 
-abbrev arguments_tested : ℕ → Tree → Tree → LinearForm → LinearForm → ℤ → ProperTerm → Steps ProperTerm
+abbrev pub arguments_tested : ℕ → Tree → Tree → LinearForm → LinearForm → ℤ → ProperTerm → Steps ProperTerm
 arguments_tested at upper lower l m w f =
     not_negative (place_of upper) l then (λ l1. not_negative (place_of lower) m then (λ m1. difference_made at l m w f))
 

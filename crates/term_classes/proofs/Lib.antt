@@ -16,4 +16,5 @@ pub mod SharedForms
 pub mod SharedProducts
 pub mod CancelledValues
 pub mod PassingPolynomials
+pub mod WalkKeeps
 mod KnownClasses

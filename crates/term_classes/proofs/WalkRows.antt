@@ -43,7 +43,7 @@ factorial_row l (negsuc w) s s' h e =
     subst (λ t. IsTimes s t (λ n k. factorial_power (negsuc w) (form_value l n k)))
     (few_same (with_lists s.up (lists.with_factor l (suc w) s.down) s.over s.guard s) s' e) (down_times s h l (suc w))
 
-whole_nonzero : (z : ℤ) → z ≢ pos 0 → IsNonzero (of_whole z)
+pub whole_nonzero : (z : ℤ) → z ≢ pos 0 → IsNonzero (of_whole z)
 whole_nonzero z n = record { top = n; bottom = one_not_zero }
 
 -- one over a form

@@ -38,7 +38,7 @@ pub record IsBase (b : Option Fraction) (f : Fraction) : Type 0 where
   pub found : b ≡ Some f
   pub top : f.top ≢ pos 0
 
-base_found : (at : ℕ) (b : Option Fraction) (f : Fraction) → (base_or_refused at b).outcome ≡ Ok f → IsBase b f
+pub base_found : (at : ℕ) (b : Option Fraction) (f : Fraction) → (base_or_refused at b).outcome ≡ Ok f → IsBase b f
 base_found at None f e = absurd (not_refused (improper 4 at) f e)
 base_found at (Some g) f e = by (is_zero g.top) refl e
   where
@@ -50,7 +50,7 @@ abbrev exponent_value : Tree → Tree → ℤ → ℤ → ℤ → Fraction
 exponent_value base e w n k = at_whole (λ z. whole_power (tree_value base (pos 1) n k) (w *ℤ z)) (tree_value e (pos 1) n k)
 
 -- an exponent that is no constant
-abbrev exponential_walk : ℕ → Tree → Tree → Option LinearForm → ℤ → ProperTerm → Steps ProperTerm
+abbrev pub exponential_walk : ℕ → Tree → Tree → Option LinearForm → ℤ → ProperTerm → Steps ProperTerm
 exponential_walk at base e l w s = constant_sought base then (λ b. base_or_refused at b then (λ b1. form_or_refused 5 e l then (λ l.
     limited_exponent l then (λ l1. times_exponential at b1 l w s))))
 
@@ -95,7 +95,7 @@ sought_has at node w s s' h e =
     sought_row at w s s' g.value h g.second (node_value node w)
     (λ q f n k. node_has node q (node_sought_is at node g.value g.first ∙ f) w n k)
 
-minus_one_not_zero : negsuc 0 ≢ pos 0
+pub minus_one_not_zero : negsuc 0 ≢ pos 0
 minus_one_not_zero e = omega (arith, ints, e)
 
 mutual
