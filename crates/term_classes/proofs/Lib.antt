@@ -17,4 +17,6 @@ pub mod SharedProducts
 pub mod CancelledValues
 pub mod PassingPolynomials
 pub mod WalkKeeps
+pub mod GatheredLists
+pub mod ClassesHaveValues
 mod KnownClasses

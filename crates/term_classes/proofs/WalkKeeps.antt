@@ -150,7 +150,8 @@ module _ (P : ProperTerm → Type 0) (rows : RowsKeep P) where
       let nonzero : IsNonzero b.value = record { top = base_is.top; bottom = (constant_has base b.value (a.first ∙ ap Ok base_is.found)).defined } in
       let scaled : ProperTerm = with_scale (lowest_terms (fraction_product s.scale (raised_fraction b.value (w *ℤ c.value.offset)))) s in
       let in_k : ProperTerm = with_k_base (lowest_terms (fraction_product s.k_base (raised_fraction b.value (w *ℤ c.value.k_slope)))) scaled in
-      subst P (same_Ok (with_n_base (lowest_terms (fraction_product s.n_base (raised_fraction b.value (w *ℤ c.value.n_slope)))) in_k) s' d)
+      subst P {x = with_n_base (lowest_terms (fraction_product s.n_base (raised_fraction b.value (w *ℤ c.value.n_slope)))) in_k}
+      (same_Ok (with_n_base (lowest_terms (fraction_product s.n_base (raised_fraction b.value (w *ℤ c.value.n_slope)))) in_k) s' d)
       (rows.n_base in_k b.value (w *ℤ c.value.n_slope) (rows.k_base scaled b.value (w *ℤ c.value.k_slope) (rows.scale s b.value (w *ℤ c.value.offset) p nonzero) nonzero) nonzero)
 
   three_keep : (l m d : LinearForm) (w : ℤ) (s s' : ProperTerm) → w ≢ pos 0 → IsWithinLimits l → IsWithinLimits m → IsWithinLimits d → P s
