@@ -2,6 +2,7 @@ pub mod SameValues
 pub mod FractionPowers
 pub mod NonzeroPowers
 pub mod LowestTerms
+pub mod GreatestDivisors
 pub mod PolynomialValues
 pub mod StepLaws
 pub mod SoughtPolynomials
