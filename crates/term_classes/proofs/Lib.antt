@@ -20,4 +20,6 @@ pub mod PassingPolynomials
 pub mod WalkKeeps
 pub mod GatheredLists
 pub mod ClassesHaveValues
+pub mod ReducedFractions
+pub mod NonzeroPolynomials
 mod KnownClasses

@@ -64,16 +64,16 @@ turned_cross true q r t b e = from1 integers (negsuc 0) e (ring_z (q ∷ r ∷ t
 abbrev pub divisor_of : Fraction → ℕ
 divisor_of f = greatest_common_divisor (unsigned_abs f.top) (unsigned_abs f.bottom)
 
-abbrev is_turned : Fraction → Bool
+abbrev pub is_turned : Fraction → Bool
 is_turned f = int_lt f.bottom (pos 0)
 
 module _ (f : Fraction) where
-  top_times : (lowest_terms f).top *ℤ pos (divisor_of f) ≡ turned_where (is_turned f) f.top
+  pub top_times : (lowest_terms f).top *ℤ pos (divisor_of f) ≡ turned_where (is_turned f) f.top
   top_times = exact_quotient (turned_where (is_turned f) f.top) (pos (divisor_of f))
       (subst (λ m. divisor_of f ∣ m) (sym (turned_size (is_turned f) f.top))
       (greatest_up_to_divides (unsigned_abs f.top + unsigned_abs f.bottom) (unsigned_abs f.top) (unsigned_abs f.bottom)).0)
 
-  bottom_times : (lowest_terms f).bottom *ℤ pos (divisor_of f) ≡ turned_where (is_turned f) f.bottom
+  pub bottom_times : (lowest_terms f).bottom *ℤ pos (divisor_of f) ≡ turned_where (is_turned f) f.bottom
   bottom_times = exact_quotient (turned_where (is_turned f) f.bottom) (pos (divisor_of f))
       (subst (λ m. divisor_of f ∣ m) (sym (turned_size (is_turned f) f.bottom))
       (greatest_up_to_divides (unsigned_abs f.top + unsigned_abs f.bottom) (unsigned_abs f.top) (unsigned_abs f.bottom)).1)

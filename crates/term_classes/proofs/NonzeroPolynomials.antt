@@ -1,0 +1,31 @@
+-- The polynomial that a walk over a tree gathers belongs to the polynomials, and isn't 0.
+use Rattle.std.proofs.Common.{◌≡◌, ◌≢◌, ℕ, refl, ap, sym, ◌∙◌, Option, Some, None}
+use Rattle.std.proofs.lemmas.Option.{none-some}
+use Rattle.std.specs.Prelude.{pos}
+use Rattle.ring_laws.specs.Meaning.{Meaning, items}
+use Rattle.hypergeometric.specs.ProperTerm.{ProperTerm}
+use Rattle.hypergeometric.specs.TreePolynomial.{in_n_and_k, poly_power, constant_in_k}
+use Rattle.term_classes.proofs.PassingPolynomials.{Belongs, power_belongs, product_belongs, product_not_nought, power_not_nought}
+use Rattle.term_classes.proofs.WalkKeeps.{RowsKeep, IsVarying}
+
+pub varying_not_nought : (q : Meaning) → IsVarying q → q ≢ in_n_and_k.nought
+varying_not_nought q h e = none-some (pos 0) (sym h.no_number ∙ ap (λ p. constant_in_k (items p)) e)
+
+pub record HasPolynomial (s : ProperTerm) : Type 0 where
+  pub belongs : Belongs s.poly
+  pub not_zero : s.poly ≢ in_n_and_k.nought
+
+pub polynomials_keep : RowsKeep HasPolynomial
+polynomials_keep = record {
+  scale = λ s g w h n. record { belongs = h.belongs; not_zero = h.not_zero };
+  n_base = λ s g w h n. record { belongs = h.belongs; not_zero = h.not_zero };
+  k_base = λ s g w h n. record { belongs = h.belongs; not_zero = h.not_zero };
+  poly = λ s q w h v. record {
+      belongs = product_belongs s.poly (poly_power q w) h.belongs (power_belongs q w v.belongs);
+      not_zero = product_not_nought s.poly (poly_power q w) h.belongs (power_belongs q w v.belongs) h.not_zero
+          (power_not_nought q w v.belongs (varying_not_nought q v));
+    };
+  up = λ s l w h limits some few. record { belongs = h.belongs; not_zero = h.not_zero };
+  down = λ s l w h limits some few. record { belongs = h.belongs; not_zero = h.not_zero };
+  over = λ s q l w h v form limits some few. record { belongs = h.belongs; not_zero = h.not_zero };
+}
