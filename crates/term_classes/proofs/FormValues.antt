@@ -6,7 +6,7 @@ use Rattle.std.proofs.lemmas.Option.{same_Some, none-some}
 use Rattle.std.proofs.lemmas.Nat.Gcd.{dvd_trans}
 use Rattle.std.proofs.Math.Nat.{mul-mod_left}
 use Rattle.std.specs.Prelude.{ℤ, pos, negsuc, ◌+ℤ◌, ◌*ℤ◌, neg_ℤ, unsigned_abs, if◌then◌else◌, nat_eq}
-use Rattle.std.specs.Int.{◌∣◌}
+use Rattle.std.specs.Int.{◌∣◌, IsGcd}
 use Rattle.std.specs.Int.RustNames.{int_div, int_rem}
 use Rattle.ring_solver.proofs.Integers.{integers}
 use Rattle.ring_solver.proofs.Linear.{cancel, from1, from3}
@@ -24,8 +24,11 @@ use Rattle.hypergeometric.specs.TreeValue.{whole_number_of, at_whole}
 use Rattle.hypergeometric.proofs.FractionLaws.{one_not_zero}
 use Rattle.term_classes.specs.Divisors.{greatest_common_divisor, turned_where}
 use Rattle.term_classes.specs.Forms.{with_numbers, form_of_coefficients, form_of_items, linear_form_of, is_negative_first, content_of_form, primitive_form}
-use Rattle.term_classes.proofs.SameValues.{◌≅◌}
-use Rattle.term_classes.proofs.LowestTerms.{greatest_up_to_divides, greatest_up_to_positive, exact_quotient, turned_size, turned_zero}
+use Rattle.term_classes.proofs.SameValues.{◌≅◌, times_zero}
+use Rattle.lin_form.specs.Forms.{IsGreatestDivisor}
+use Rattle.lin_form.proofs.PrimitiveForms.{IsNotZero}
+use Rattle.term_classes.proofs.GreatestDivisors.{greatest_is_gcd}
+use Rattle.term_classes.proofs.LowestTerms.{exact_quotient, turned_size}
 use Rattle.term_classes.proofs.ConstantPowers.{in_n_value}
 
 module _ (n k : ℤ) where
@@ -72,38 +75,38 @@ module _ (n k : ℤ) where
   linear_value p l e = items_value (items p) l e
 
 -- the greatest common divisor of the numbers of a form
-abbrev divisor_of_form : LinearForm → ℕ
+abbrev pub divisor_of_form : LinearForm → ℕ
 divisor_of_form f = greatest_common_divisor (unsigned_abs f.k_slope) (greatest_common_divisor (unsigned_abs f.n_slope) (unsigned_abs f.offset))
 
-content_size : (f : LinearForm) → unsigned_abs (content_of_form f) ≡ divisor_of_form f
+pub content_size : (f : LinearForm) → unsigned_abs (content_of_form f) ≡ divisor_of_form f
 content_size f = turned_size (is_negative_first f) (pos (divisor_of_form f))
 
-pub content_not_zero : (f : LinearForm) → content_of_form f ≢ pos 0
-content_not_zero f e =
-    let some : 0 < divisor_of_form f = greatest_up_to_positive (unsigned_abs f.k_slope + greatest_common_divisor (unsigned_abs f.n_slope) (unsigned_abs f.offset))
-        (unsigned_abs f.k_slope) (greatest_common_divisor (unsigned_abs f.n_slope) (unsigned_abs f.offset)) in
-    omega (arith, ints, some, sym (content_size f) ∙ ap unsigned_abs e)
-
 module _ (f : LinearForm) where
-  outer_divides : (divisor_of_form f ∣ unsigned_abs f.k_slope) × (divisor_of_form f ∣ greatest_common_divisor (unsigned_abs f.n_slope) (unsigned_abs f.offset))
-  outer_divides = greatest_up_to_divides (unsigned_abs f.k_slope + greatest_common_divisor (unsigned_abs f.n_slope) (unsigned_abs f.offset))
-      (unsigned_abs f.k_slope) (greatest_common_divisor (unsigned_abs f.n_slope) (unsigned_abs f.offset))
+  inner_gcd : IsGcd (unsigned_abs f.n_slope) (unsigned_abs f.offset) (greatest_common_divisor (unsigned_abs f.n_slope) (unsigned_abs f.offset))
+  inner_gcd = greatest_is_gcd (unsigned_abs f.n_slope) (unsigned_abs f.offset)
 
-  inner_divides : (greatest_common_divisor (unsigned_abs f.n_slope) (unsigned_abs f.offset) ∣ unsigned_abs f.n_slope)
-      × (greatest_common_divisor (unsigned_abs f.n_slope) (unsigned_abs f.offset) ∣ unsigned_abs f.offset)
-  inner_divides = greatest_up_to_divides (unsigned_abs f.n_slope + unsigned_abs f.offset) (unsigned_abs f.n_slope) (unsigned_abs f.offset)
+  outer_gcd : IsGcd (unsigned_abs f.k_slope) (greatest_common_divisor (unsigned_abs f.n_slope) (unsigned_abs f.offset)) (divisor_of_form f)
+  outer_gcd = greatest_is_gcd (unsigned_abs f.k_slope) (greatest_common_divisor (unsigned_abs f.n_slope) (unsigned_abs f.offset))
+
+  pub content_divides : IsGreatestDivisor f (divisor_of_form f)
+  content_divides = record {
+    k_slope = outer_gcd.0;
+    n_slope = dvd_trans (divisor_of_form f) outer_gcd.1 inner_gcd.0;
+    offset = dvd_trans (divisor_of_form f) outer_gcd.1 inner_gcd.1;
+    greatest = λ c p q r. outer_gcd.2 c p (inner_gcd.2 c q r);
+  }
 
   by_content : (z : ℤ) → divisor_of_form f ∣ unsigned_abs z → int_div z (content_of_form f) *ℤ content_of_form f ≡ z
   by_content z d = exact_quotient z (content_of_form f) (subst (λ m. m ∣ unsigned_abs z) (sym (content_size f)) d)
 
   pub k_slope_times : (primitive_form f).k_slope *ℤ content_of_form f ≡ f.k_slope
-  k_slope_times = by_content f.k_slope outer_divides.0
+  k_slope_times = by_content f.k_slope content_divides.k_slope
 
   pub n_slope_times : (primitive_form f).n_slope *ℤ content_of_form f ≡ f.n_slope
-  n_slope_times = by_content f.n_slope (dvd_trans (divisor_of_form f) outer_divides.1 inner_divides.0)
+  n_slope_times = by_content f.n_slope content_divides.n_slope
 
   pub offset_times : (primitive_form f).offset *ℤ content_of_form f ≡ f.offset
-  offset_times = by_content f.offset (dvd_trans (divisor_of_form f) outer_divides.1 inner_divides.1)
+  offset_times = by_content f.offset content_divides.offset
 
   -- the content times the value of the primitive part
   pub content_times : (n k : ℤ) → content_of_form f *ℤ form_value (primitive_form f) n k ≡ form_value f n k
@@ -113,6 +116,17 @@ module _ (f : LinearForm) where
     where
       joined : (n k c s t o : ℤ) → c *ℤ (s *ℤ n +ℤ t *ℤ k +ℤ o) ≡ (s *ℤ c) *ℤ n +ℤ (t *ℤ c) *ℤ k +ℤ o *ℤ c
       joined n k c s t o = ring_z (n ∷ k ∷ c ∷ s ∷ t ∷ o ∷ []) (search reading_z depth 40 fits 20000) refl
+
+-- the content of a form that isn't 0
+pub content_not_zero : (f : LinearForm) → IsNotZero f → content_of_form f ≢ pos 0
+content_not_zero f some e = some (
+  zero_multiple f.k_slope (primitive_form f).k_slope e (k_slope_times f),
+  zero_multiple f.n_slope (primitive_form f).n_slope e (n_slope_times f),
+  zero_multiple f.offset (primitive_form f).offset e (offset_times f),
+)
+  where
+    zero_multiple : (z q : ℤ) → content_of_form f ≡ pos 0 → q *ℤ content_of_form f ≡ z → z ≡ pos 0
+    zero_multiple z q nothing h = sym h ∙ ap (λ c. q *ℤ c) nothing ∙ times_zero q
 
 -- the whole number of a fraction that has the value of one
 whole_found : (f : Fraction) (z : ℤ) → f ≅ of_whole z → whole_number_of f ≡ Some z

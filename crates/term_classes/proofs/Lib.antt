@@ -1,14 +1,16 @@
 pub mod SameValues
 pub mod FractionPowers
 pub mod NonzeroPowers
-pub mod LowestTerms
 pub mod GreatestDivisors
+pub mod LowestTerms
 pub mod PolynomialValues
+pub mod PassingPolynomials
 pub mod StepLaws
 pub mod SoughtPolynomials
 pub mod ConstantPowers
 pub mod ConstantValues
 pub mod TermProducts
+pub mod VaryingForms
 pub mod FormValues
 pub mod WalkRows
 pub mod ArgumentRows
@@ -16,7 +18,6 @@ pub mod WalkValues
 pub mod SharedForms
 pub mod SharedProducts
 pub mod CancelledValues
-pub mod PassingPolynomials
 pub mod WalkKeeps
 pub mod GatheredLists
 pub mod ClassesHaveValues

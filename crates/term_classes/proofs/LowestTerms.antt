@@ -16,25 +16,10 @@ use Rattle.ring_laws.proofs.Quotients.{abs_rem}
 use Rattle.hypergeometric.specs.Fraction.{Fraction, IsDefined, of_whole, fraction_product, fraction_inverse, natural_power, whole_power}
 use Rattle.hypergeometric.specs.ProperTerm.{IsNonzero}
 use Rattle.term_classes.specs.Divisors.{divides, greatest_divisor_up_to, greatest_common_divisor, turned_where, lowest_terms, raised_fraction}
+use Rattle.term_classes.proofs.GreatestDivisors.{greatest_is_gcd}
 use Rattle.term_classes.proofs.SameValues.{◌≅◌, same, same_chain, same_turned, same_natural_powers, zero_times}
 use Rattle.term_classes.proofs.FractionPowers.{fraction_with, fraction_same}
 use Rattle.term_classes.proofs.NonzeroPowers.{turned_over, turned_over_nonzero, natural_power_nonzero, inverse_is_turned_over}
-
-divides_read : (d a : ℕ) → divides d a ≡ true → d ∣ a
-divides_read d a e = dvd_of_mod-eq-zero d (eqb-true (a % d) 0 e)
-
-pub greatest_up_to_divides : (bound a b : ℕ) → (greatest_divisor_up_to bound a b ∣ a) × (greatest_divisor_up_to bound a b ∣ b)
-greatest_up_to_divides zero a b = (one-dvd a, one-dvd b)
-greatest_up_to_divides (suc d) a b =
-    cond_both (divides (suc d) a && divides (suc d) b) (suc d) (greatest_divisor_up_to d a b) (λ g. (g ∣ a) × (g ∣ b))
-    (λ e. (divides_read (suc d) a (and_parts (divides (suc d) a) (divides (suc d) b) e).0, divides_read (suc d) b (and_parts (divides (suc d) a) (divides (suc d) b) e).1))
-    (λ e. greatest_up_to_divides d a b)
-
-pub greatest_up_to_positive : (bound a b : ℕ) → 0 < greatest_divisor_up_to bound a b
-greatest_up_to_positive zero a b = omega arith
-greatest_up_to_positive (suc d) a b =
-    cond_both (divides (suc d) a && divides (suc d) b) (suc d) (greatest_divisor_up_to d a b) (λ g. 0 < g)
-    (λ e. omega arith) (λ e. greatest_up_to_positive d a b)
 
 -- a divisor times the quotient by it is the number
 pub exact_quotient : (z : ℤ) (g : ℤ) → unsigned_abs g ∣ unsigned_abs z → int_div z g *ℤ g ≡ z
@@ -71,12 +56,12 @@ module _ (f : Fraction) where
   pub top_times : (lowest_terms f).top *ℤ pos (divisor_of f) ≡ turned_where (is_turned f) f.top
   top_times = exact_quotient (turned_where (is_turned f) f.top) (pos (divisor_of f))
       (subst (λ m. divisor_of f ∣ m) (sym (turned_size (is_turned f) f.top))
-      (greatest_up_to_divides (unsigned_abs f.top + unsigned_abs f.bottom) (unsigned_abs f.top) (unsigned_abs f.bottom)).0)
+      (greatest_is_gcd (unsigned_abs f.top) (unsigned_abs f.bottom)).0)
 
   pub bottom_times : (lowest_terms f).bottom *ℤ pos (divisor_of f) ≡ turned_where (is_turned f) f.bottom
   bottom_times = exact_quotient (turned_where (is_turned f) f.bottom) (pos (divisor_of f))
       (subst (λ m. divisor_of f ∣ m) (sym (turned_size (is_turned f) f.bottom))
-      (greatest_up_to_divides (unsigned_abs f.top + unsigned_abs f.bottom) (unsigned_abs f.top) (unsigned_abs f.bottom)).1)
+      (greatest_is_gcd (unsigned_abs f.top) (unsigned_abs f.bottom)).1)
 
   -- where the quotient is 0, the number is
   pub lowest_bottom_zero : (lowest_terms f).bottom ≡ pos 0 → f.bottom ≡ pos 0

@@ -6,10 +6,8 @@ use Rattle.ring_laws.specs.Meaning.{Meaning, items}
 use Rattle.hypergeometric.specs.ProperTerm.{ProperTerm}
 use Rattle.hypergeometric.specs.TreePolynomial.{in_n_and_k, poly_power, constant_in_k}
 use Rattle.term_classes.proofs.PassingPolynomials.{Belongs, power_belongs, product_belongs, product_not_nought, power_not_nought}
-use Rattle.term_classes.proofs.WalkKeeps.{RowsKeep, IsVarying}
-
-pub varying_not_nought : (q : Meaning) → IsVarying q → q ≢ in_n_and_k.nought
-varying_not_nought q h e = none-some (pos 0) (sym h.no_number ∙ ap (λ p. constant_in_k (items p)) e)
+use Rattle.term_classes.proofs.VaryingForms.{IsVarying, varying_not_nought}
+use Rattle.term_classes.proofs.WalkKeeps.{RowsKeep}
 
 pub record HasPolynomial (s : ProperTerm) : Type 0 where
   pub belongs : Belongs s.poly

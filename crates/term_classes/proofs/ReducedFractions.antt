@@ -13,8 +13,8 @@ use Rattle.hypergeometric.specs.ProperTerm.{ProperTerm, IsNonzero}
 use Rattle.hypergeometric.specs.TermFacts.{IsNumber, IsLowest}
 use Rattle.lin_form.proofs.Signs.{same_sign}
 use Rattle.term_classes.specs.Divisors.{turned_where, lowest_terms, raised_fraction, greatest_common_divisor}
-use Rattle.term_classes.proofs.GreatestDivisors.{greatest_is_gcd}
-use Rattle.term_classes.proofs.LowestTerms.{divisor_of, is_turned, top_times, bottom_times, turned_size, lowest_nonzero, greatest_up_to_positive}
+use Rattle.term_classes.proofs.GreatestDivisors.{greatest_is_gcd, greatest_positive}
+use Rattle.term_classes.proofs.LowestTerms.{divisor_of, is_turned, top_times, bottom_times, turned_size, lowest_nonzero}
 use Rattle.term_classes.proofs.TermProducts.{multiplied_nonzero}
 use Rattle.term_classes.proofs.NonzeroPowers.{product_nonzero}
 use Rattle.term_classes.proofs.LowestTerms.{raised_nonzero}
@@ -39,12 +39,17 @@ turned_positive (pos (suc m)) n =
     cond_both (ltb (suc m) 0) (neg_ℤ (pos (suc m))) (pos (suc m)) (λ (z : ℤ). pos 0 <ℤ z) (λ e. absurd (omega (arith, ltb-true (suc m) 0 e))) (λ e. omega (arith, ints))
 turned_positive (negsuc m) n = omega (arith, ints)
 
+some_size : (z : ℤ) (m : ℕ) → z ≢ pos 0 → 0 < unsigned_abs z + m
+some_size (pos zero) m n = absurd (n refl)
+some_size (pos (suc a)) m n = omega arith
+some_size (negsuc a) m n = omega arith
+
 module _ (f : Fraction) (h : IsNonzero f) where
   divisor_positive : 0 < divisor_of f
-  divisor_positive = greatest_up_to_positive (unsigned_abs f.top + unsigned_abs f.bottom) (unsigned_abs f.top) (unsigned_abs f.bottom)
+  divisor_positive = greatest_positive (unsigned_abs f.top) (unsigned_abs f.bottom) (some_size f.top (unsigned_abs f.bottom) h.top)
 
   divisor_is : IsGcd (unsigned_abs f.top) (unsigned_abs f.bottom) (divisor_of f)
-  divisor_is = greatest_is_gcd (unsigned_abs f.top) (unsigned_abs f.bottom) (λ z. h.top (abs_nought f.top z.0))
+  divisor_is = greatest_is_gcd (unsigned_abs f.top) (unsigned_abs f.bottom)
 
   -- the magnitude of a quotient by the divisor
   times_size : (q z t : ℤ) → q *ℤ pos (divisor_of f) ≡ z → unsigned_abs z ≡ unsigned_abs t → unsigned_abs q * divisor_of f ≡ unsigned_abs t

@@ -25,6 +25,7 @@ use Rattle.term_classes.proofs.SoughtPolynomials.{node_sought_is}
 use Rattle.term_classes.proofs.ConstantPowers.{not_zero}
 use Rattle.term_classes.proofs.ConstantValues.{constant_has}
 use Rattle.term_classes.proofs.PassingPolynomials.{Belongs, node_belongs}
+use Rattle.term_classes.proofs.VaryingForms.{IsVarying, varying_not_zero}
 use Rattle.term_classes.proofs.FormValues.{content_not_zero}
 use Rattle.term_classes.proofs.WalkRows.{few_same, whole_nonzero}
 use Rattle.term_classes.proofs.ArgumentRows.{skipped, three_factorials, limits_tested, difference_made, arguments_tested}
@@ -41,11 +42,6 @@ with_down l w s = with_lists s.up (lists.with_factor l w s.down) s.over s.guard 
 
 abbrev pub with_over : LinearForm → ℕ → ProperTerm → ProperTerm
 with_over l w s = with_lists s.up s.down (lists.with_factor l w s.over) s.guard s
-
--- a polynomial that is no number
-pub record IsVarying (q : Meaning) : Type 0 where
-  pub belongs : Belongs q
-  pub no_number : constant_in_k (items q) ≡ None
 
 -- each row keeps P
 pub record RowsKeep (P : ProperTerm → Type 0) : Type 0 where
@@ -96,7 +92,7 @@ module _ (P : ProperTerm → Type 0) (rows : RowsKeep P) where
       subst P (same_Ok (with_scale (lowest_terms (fraction_product g.value.scale (raised_fraction (of_whole (content_of_form l)) (negsuc w)))) g.value) s' g.second)
       (rows.scale g.value (of_whole (content_of_form l)) (negsuc w)
       (subst P (few_same t g.value g.first) (rows.over s q l (suc w) p varying form limits (omega arith) (few_given t g.value g.first)))
-      (whole_nonzero (content_of_form l) (content_not_zero l)))
+      (whole_nonzero (content_of_form l) (content_not_zero l (varying_not_zero q l varying form))))
 
   number_keeps : (at : ℕ) (z w : ℤ) (s s' : ProperTerm) → P s → (times_number at z w s).outcome ≡ Ok s' → P s'
   number_keeps at z w s s' p e = by (is_zero z) refl e

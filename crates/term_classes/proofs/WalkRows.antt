@@ -23,6 +23,8 @@ use Rattle.term_classes.specs.Walk.{with_lists, with_scale, with_poly, place_of,
 use Rattle.term_classes.proofs.SameValues.{◌≅◌, same, same_itself, same_chain, same_turned, same_products, same_sums, same_negatives}
 use Rattle.term_classes.proofs.FractionPowers.{product_comm, product_one, whole_power_of_product}
 use Rattle.term_classes.proofs.NonzeroPowers.{power_at_sum}
+use Rattle.term_classes.proofs.PassingPolynomials.{Belongs}
+use Rattle.term_classes.proofs.VaryingForms.{IsVarying, varying_not_zero}
 use Rattle.term_classes.proofs.StepLaws.{Gave, then_gave, same_Ok, limit_gave, not_refused}
 use Rattle.term_classes.proofs.PolynomialValues.{tree_has, value_of_power}
 use Rattle.term_classes.proofs.SoughtPolynomials.{sought_is}
@@ -47,14 +49,14 @@ pub whole_nonzero : (z : ℤ) → z ≢ pos 0 → IsNonzero (of_whole z)
 whole_nonzero z n = record { top = n; bottom = one_not_zero }
 
 -- one over a form
-denominator_row : (at : ℕ) (l : LinearForm) (w : ℕ) (s s' : ProperTerm) → HasFractions s → (with_denominator at l (suc w) s).outcome ≡ Ok s'
+denominator_row : (at : ℕ) (l : LinearForm) (w : ℕ) (s s' : ProperTerm) → content_of_form l ≢ pos 0 → HasFractions s → (with_denominator at l (suc w) s).outcome ≡ Ok s'
     → IsTimes s s' (λ n k. whole_power (of_whole (form_value l n k)) (negsuc w))
-denominator_row at l w s s' h e =
+denominator_row at l w s s' some h e =
     let t : ProperTerm = with_lists s.up s.down (lists.with_factor (primitive_form l) (suc w) s.over) s.guard s in
     let g = then_gave (few_factors t) (λ g. times_power at g.scale (of_whole (content_of_form l)) (negsuc w) then (λ s. gives (with_scale s g))) s' e in
     let over = subst (λ t. IsTimes s t (λ n k. natural_power (fraction_inverse (of_whole (form_value (primitive_form l) n k))) (suc w))) (few_same t g.value g.first)
         (over_times s h (primitive_form l) (suc w)) in
-    let scaled = scale_times g.value over.fractions (of_whole (content_of_form l)) (negsuc w) (whole_nonzero (content_of_form l) (content_not_zero l)) in
+    let scaled = scale_times g.value over.fractions (of_whole (content_of_form l)) (negsuc w) (whole_nonzero (content_of_form l) some) in
     times_same s s' (λ n k. fraction_product (whole_power (of_whole (form_value (primitive_form l) n k)) (negsuc w)) (whole_power (of_whole (content_of_form l)) (negsuc w)))
     (λ n k. whole_power (of_whole (form_value l n k)) (negsuc w))
     (subst (λ t. IsTimes s t (λ n k. fraction_product (whole_power (of_whole (form_value (primitive_form l) n k)) (negsuc w)) (whole_power (of_whole (content_of_form l)) (negsuc w))))
@@ -77,14 +79,14 @@ number_row at z w s s' h e = by (is_zero z) refl e
         (scale_times s h (of_whole z) w (whole_nonzero z (not_zero z p)))
 
 -- a polynomial that is no number
-polynomial_row : (at : ℕ) (p : Meaning) (w : ℤ) (s s' : ProperTerm) → HasFractions s → (times_polynomial at p w s).outcome ≡ Ok s'
+polynomial_row : (at : ℕ) (p : Meaning) (w : ℤ) (s s' : ProperTerm) → IsVarying p → HasFractions s → (times_polynomial at p w s).outcome ≡ Ok s'
     → IsTimes s s' (λ n k. whole_power (of_whole (poly_value p n k)) w)
-polynomial_row at p (pos w) s s' h e =
+polynomial_row at p (pos w) s s' varying h e =
     subst (λ t. IsTimes s t (λ n k. whole_power (of_whole (poly_value p n k)) (pos w)))
     (same_Ok (with_poly (in_n_and_k.product s.poly (poly_power p w)) s) s' e)
     (times_same s (with_poly (in_n_and_k.product s.poly (poly_power p w)) s) (λ n k. of_whole (poly_value (poly_power p w) n k)) (λ n k. whole_power (of_whole (poly_value p n k)) (pos w))
     (poly_times s h (poly_power p w)) (λ n k. same (value_of_power n k p w)))
-polynomial_row at p (negsuc w) s s' h e = by (linear_form_of (Some p)) refl e
+polynomial_row at p (negsuc w) s s' varying h e = by (linear_form_of (Some p)) refl e
   where
     by : (o : Option LinearForm) → linear_form_of (Some p) ≡ o → (elim o as (λ _. Steps ProperTerm) [
       | None ↦ refuses (improper 3 at)
@@ -94,13 +96,13 @@ polynomial_row at p (negsuc w) s s' h e = by (linear_form_of (Some p)) refl e
     by (Some l) q f =
         let g = then_gave (limited_form l) (λ l1. with_denominator at l (suc w) s) s' f in
         times_same s s' (λ n k. whole_power (of_whole (form_value l n k)) (negsuc w)) (λ n k. whole_power (of_whole (poly_value p n k)) (negsuc w))
-        (denominator_row at l w s s' h g.second) (λ n k. same (ap (λ z. whole_power (of_whole z) (negsuc w)) (sym (linear_value n k p l q))))
+        (denominator_row at l w s s' (content_not_zero l (varying_not_zero p l varying q)) h g.second) (λ n k. same (ap (λ z. whole_power (of_whole z) (negsuc w)) (sym (linear_value n k p l q))))
 
 -- a literal, n, k or a sum, where a polynomial is found
-pub sought_row : (at : ℕ) (w : ℤ) (s s' : ProperTerm) (p : Option Meaning) → HasFractions s → (times_sought at w s p).outcome ≡ Ok s' → (v : ℤ → ℤ → Fraction)
+pub sought_row : (at : ℕ) (w : ℤ) (s s' : ProperTerm) (p : Option Meaning) → ((q : Meaning) → p ≡ Some q → Belongs q) → HasFractions s → (times_sought at w s p).outcome ≡ Ok s' → (v : ℤ → ℤ → Fraction)
     → ((q : Meaning) → p ≡ Some q → (n k : ℤ) → v n k ≅ whole_power (of_whole (poly_value q n k)) w) → IsTimes s s' v
-sought_row at w s s' None h e v f = absurd (not_refused (improper 6 at) s' e)
-sought_row at w s s' (Some q) h e v f = by (constant_in_k (items q)) refl e
+sought_row at w s s' None belongs h e v f = absurd (not_refused (improper 6 at) s' e)
+sought_row at w s s' (Some q) belongs h e v f = by (constant_in_k (items q)) refl e
   where
     by : (c : Option ℤ) → constant_in_k (items q) ≡ c → (elim c as (λ _. Steps ProperTerm) [
       | Some z ↦ times_number at z w s
@@ -108,4 +110,4 @@ sought_row at w s s' (Some q) h e v f = by (constant_in_k (items q)) refl e
     ]).outcome ≡ Ok s' → IsTimes s s' v
     by (Some z) p g = times_same s s' (λ n k. whole_power (of_whole z) w) v (number_row at z w s s' h g)
         (λ n k. same_turned (same_chain (f q refl n k) (same (ap (λ z. whole_power (of_whole z) w) (constant_value n k q z p)))))
-    by None p g = times_same s s' (λ n k. whole_power (of_whole (poly_value q n k)) w) v (polynomial_row at q w s s' h g) (λ n k. same_turned (f q refl n k))
+    by None p g = times_same s s' (λ n k. whole_power (of_whole (poly_value q n k)) w) v (polynomial_row at q w s s' (record { belongs = belongs q refl; no_number = p }) h g) (λ n k. same_turned (f q refl n k))

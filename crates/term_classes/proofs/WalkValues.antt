@@ -19,6 +19,7 @@ use Rattle.term_classes.specs.Sought.{polynomial_sought, node_polynomial_sought,
 use Rattle.term_classes.specs.Walk.{with_scale, place_of, times_sought, form_or_refused, argument_sought, not_negative, with_factorial, base_or_refused, times_exponential, walk, walk_node, walk_parts}
 use Rattle.term_classes.proofs.SameValues.{◌≅◌, same, same_itself, same_chain, same_turned, same_whole_powers}
 use Rattle.term_classes.proofs.FractionPowers.{product_one}
+use Rattle.term_classes.proofs.PassingPolynomials.{node_belongs}
 use Rattle.term_classes.proofs.StepLaws.{Gave, then_gave, same_Ok, not_refused}
 use Rattle.term_classes.proofs.PolynomialValues.{node_has, power_value}
 use Rattle.term_classes.proofs.SoughtPolynomials.{sought_is, node_sought_is}
@@ -92,7 +93,7 @@ sought_has : (at : ℕ) (node : Node) (w : ℤ) (s s' : ProperTerm) → HasFract
     → IsTimes s s' (node_value node w)
 sought_has at node w s s' h e =
     let g = then_gave (node_polynomial_sought at node) (times_sought at w s) s' e in
-    sought_row at w s s' g.value h g.second (node_value node w)
+    sought_row at w s s' g.value (λ q f. node_belongs node q (node_sought_is at node g.value g.first ∙ f)) h g.second (node_value node w)
     (λ q f n k. node_has node q (node_sought_is at node g.value g.first ∙ f) w n k)
 
 pub minus_one_not_zero : negsuc 0 ≢ pos 0

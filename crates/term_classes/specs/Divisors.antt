@@ -7,12 +7,12 @@ use Rattle.hypergeometric.specs.Fraction.{Fraction}
 abbrev pub divides : ℕ → ℕ → Bool
 divides d a = nat_eq (a % d) 0
 
--- the greatest number from 1 up to a bound that divides both
+-- the greatest number from 1 up to a bound that divides both, and 0 where the bound is 0
 abbrev pub greatest_divisor_up_to : ℕ → ℕ → ℕ → ℕ
-greatest_divisor_up_to zero a b = 1
+greatest_divisor_up_to zero a b = 0
 greatest_divisor_up_to (suc d) a b = cond (divides (suc d) a && divides (suc d) b) (suc d) (greatest_divisor_up_to d a b)
 
--- no divisor of two numbers that aren't both 0 is above their sum
+-- no divisor of two numbers that aren't both 0 is above their sum; for two zeros it is 0
 abbrev pub greatest_common_divisor : ℕ → ℕ → ℕ
 greatest_common_divisor a b = greatest_divisor_up_to (a + b) a b
 
