@@ -23,4 +23,5 @@ pub mod GatheredLists
 pub mod ClassesHaveValues
 pub mod ReducedFractions
 pub mod NonzeroPolynomials
+pub mod PrimitiveDenominators
 mod KnownClasses
