@@ -136,7 +136,7 @@ module _ (n k : ℤ) where
       law u b d c o = ring_z (u ∷ b ∷ d ∷ c ∷ o ∷ []) (search reading_z depth 40 fits 20000) refl
 
 -- the shared forms of a list have powers no greater than in it
-at_most_own : (xs bs : List Factor) → NoFormTwice xs → ((f : LinearForm) → power_of f bs ≤ power_of f xs) → AllByRecursion (λ x. power_of x.form bs ≤ x.power) xs
+pub at_most_own : (xs bs : List Factor) → NoFormTwice xs → ((f : LinearForm) → power_of f bs ≤ power_of f xs) → AllByRecursion (λ x. power_of x.form bs ≤ x.power) xs
 at_most_own xs bs h below = all_more (λ x. power_of x.form xs ≡ x.power) (λ x. power_of x.form bs ≤ x.power) (λ x e. subst (λ m. power_of x.form bs ≤ m) e (below x.form)) xs (own_powers xs h)
 
 -- what cancelling needs of a term

@@ -24,4 +24,6 @@ pub mod ClassesHaveValues
 pub mod ReducedFractions
 pub mod NonzeroPolynomials
 pub mod PrimitiveDenominators
+pub mod SharedTotals
+pub mod PlainClasses
 mod KnownClasses

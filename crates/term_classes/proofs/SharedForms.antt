@@ -62,7 +62,7 @@ own_powers (x ∷ xs) h = (power_here x.form x xs refl, rest xs h.0 (own_powers 
     rest (y ∷ ys) n e = (power_later y.form x xs n.0 ∙ e.0, rest ys n.1 e.1)
 
 -- by whether a form of the first list stands in the second
-both_by : (P : List Factor → Type 0) (x : Factor) (xs ys : List Factor) → (power_of x.form ys ≡ 0 → P (in_both xs ys))
+pub both_by : (P : List Factor → Type 0) (x : Factor) (xs ys : List Factor) → (power_of x.form ys ≡ 0 → P (in_both xs ys))
     → (1 ≤ power_of x.form ys → P (factor_with x.form (min x.power (power_of x.form ys)) ∷ in_both xs ys)) → P (in_both (x ∷ xs) ys)
 both_by P x xs ys none some =
     cond_both (nat_eq (power_of x.form ys) 0) (in_both xs ys) (factor_with x.form (min x.power (power_of x.form ys)) ∷ in_both xs ys) P

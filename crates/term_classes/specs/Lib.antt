@@ -6,3 +6,4 @@ pub mod Sought
 pub mod Walk
 pub mod Recurrence
 pub mod ClassValues
+pub mod ClassBounds

@@ -1,0 +1,128 @@
+-- The class of a tree is a plain term, where its numbers are in bounds.
+use Rattle.std.proofs.Common.{◌≡◌, ◌≢◌, ℕ, zero, suc, ◌+◌, ◌-◌, ◌*◌, ◌≤◌, ◌<◌, ◌^◌, min, refl, ap, sym, ◌∙◌, List, [], ◌∷◌, arith, subst, ⊎_elim}
+use Rattle.std.proofs.lemmas.Int.{ints}
+use Rattle.std.specs.Prelude.{ℤ, pos, negsuc, Ok}
+use Rattle.std.specs.List.{AllByRecursion}
+use Rattle.hypergeometric.specs.Fraction.{Fraction}
+use Rattle.hypergeometric.specs.LinearForm.{LinearForm, Factor}
+use Rattle.hypergeometric.specs.FormOrder.{IsForm, IsFactor, NoFormTwice, AreFactors}
+use Rattle.hypergeometric.specs.ProperTerm.{ProperTerm}
+use Rattle.hypergeometric.specs.TermFacts.{IsWithinLimits, AllWithinLimits, IsProper, IsPlain, total_power}
+use Rattle.hypergeometric.specs.Tree.{Tree}
+use Rattle.hypergeometric.proofs.FractionLaws.{one_not_zero}
+use Rattle.lin_form.specs.FactorLists.{factor_with, power_of}
+use Rattle.term_classes.specs.Steps.{Steps, gives, ◌then◌}
+use Rattle.term_classes.specs.Walk.{unit_term, in_both, without, cancelled, walk, class_of, class_of_quotient}
+use Rattle.term_classes.specs.ClassBounds.{IsTermInBounds}
+use Rattle.term_classes.proofs.StepLaws.{Gave, then_gave, same_Ok}
+use Rattle.term_classes.proofs.SharedForms.{all_more, power_by, power_here, power_later, same_or_other, absent_power, own_powers, both_by, both_forms, both_distinct, both_in_first, both_in_second, both_below_first, both_below_second, without_by, without_forms, without_distinct}
+use Rattle.term_classes.proofs.SharedTotals.{total_parts}
+use Rattle.term_classes.proofs.CancelledValues.{at_most_own}
+use Rattle.term_classes.proofs.WalkKeeps.{RowsKeep, walk_keeps}
+use Rattle.term_classes.proofs.WalkValues.{minus_one_not_zero}
+use Rattle.term_classes.proofs.GatheredLists.{IsGatheredList, HasLists, lists_keep, list_some}
+use Rattle.term_classes.proofs.ReducedFractions.{IsReduced, HasReduced, fractions_keep, reduced_lowest}
+use Rattle.term_classes.proofs.NonzeroPolynomials.{HasPolynomial, polynomials_keep}
+use Rattle.term_classes.proofs.PrimitiveDenominators.{HasPrimitive, denominators_keep}
+use Rattle.term_classes.proofs.ClassesHaveValues.{unit_lists}
+
+without_each : (xs ys : List Factor) → AllByRecursion IsFactor xs → AllByRecursion IsFactor (without xs ys)
+without_each [] ys h = tt
+without_each (x ∷ xs) ys h = without_by (AllByRecursion IsFactor) x xs ys (λ e. without_each xs ys h.1)
+    (λ e. (record { form = h.0.form; some = e; few = omega (arith, h.0.few) }, without_each xs ys h.1))
+
+both_each : (xs ys : List Factor) → AllByRecursion IsFactor xs → AllByRecursion IsFactor (in_both xs ys)
+both_each [] ys h = tt
+both_each (x ∷ xs) ys h = both_by (AllByRecursion IsFactor) x xs ys (λ e. both_each xs ys h.1)
+    (λ e. (record { form = h.0.form; some = omega (arith, e, h.0.some); few = omega (arith, h.0.few) }, both_each xs ys h.1))
+
+-- the power of a shared form is the smaller of its two powers
+both_power : (f : LinearForm) (xs ys : List Factor) → NoFormTwice xs → power_of f (in_both xs ys) ≡ min (power_of f xs) (power_of f ys)
+both_power f [] ys h = omega arith
+both_power f (x ∷ xs) ys h = ⊎_elim here (there (both_power f xs ys h.1)) (same_or_other f x.form)
+  where
+    here : f ≡ x.form → power_of f (in_both (x ∷ xs) ys) ≡ min (power_of f (x ∷ xs)) (power_of f ys)
+    here e =
+        let absent : power_of f (in_both xs ys) ≡ 0 =
+            ap (λ g. power_of g (in_both xs ys)) e ∙ absent_power x.form (in_both xs ys) (both_forms (λ f. f ≢ x.form) xs ys h.0) in
+        let own : power_of f (x ∷ xs) ≡ x.power = power_here f x xs e in
+        let second : power_of f ys ≡ power_of x.form ys = ap (λ g. power_of g ys) e in
+        both_by (λ zs. power_of f zs ≡ min (power_of f (x ∷ xs)) (power_of f ys)) x xs ys (λ none. omega (arith, none, absent, own, second))
+        (λ some. omega (arith, power_here f (factor_with x.form (min x.power (power_of x.form ys))) (in_both xs ys) e, own, second))
+
+    there : power_of f (in_both xs ys) ≡ min (power_of f xs) (power_of f ys) → f ≢ x.form → power_of f (in_both (x ∷ xs) ys) ≡ min (power_of f (x ∷ xs)) (power_of f ys)
+    there e n =
+        let later : power_of f (x ∷ xs) ≡ power_of f xs = power_later f x xs n in
+        both_by (λ zs. power_of f zs ≡ min (power_of f (x ∷ xs)) (power_of f ys)) x xs ys (λ none. omega (arith, e, later))
+        (λ some. omega (arith, e, later, power_later f (factor_with x.form (min x.power (power_of x.form ys))) (in_both xs ys) n))
+
+-- of each form that is left something is left of its power
+left_powers : (xs zs ys : List Factor) → AllByRecursion (λ x. power_of x.form zs ≡ x.power) xs
+    → AllByRecursion (λ x. 1 ≤ power_of x.form zs - power_of x.form ys) (without xs ys)
+left_powers [] zs ys h = tt
+left_powers (x ∷ xs) zs ys h = without_by (AllByRecursion (λ x. 1 ≤ power_of x.form zs - power_of x.form ys)) x xs ys (λ e. left_powers xs zs ys h.1)
+    (λ e. (omega (arith, e, h.0), left_powers xs zs ys h.1))
+
+each_pair : (P Q : Factor → Type 0) (R : Factor → Factor → Type 0) → ((x y : Factor) → P x → Q y → R x y) → (xs ys : List Factor)
+    → AllByRecursion P xs → AllByRecursion Q ys → AllByRecursion (λ x. AllByRecursion (R x) ys) xs
+each_pair P Q R f xs ys p q = all_more P (λ x. AllByRecursion (R x) ys) (λ x h. all_more Q (R x) (λ y g. f x y h g) ys q) xs p
+
+-- what a term gathers in a walk
+pub record IsGathered (s : ProperTerm) : Type 0 where
+  pub lists : HasLists s
+  pub fractions : HasReduced s
+  pub polynomial : HasPolynomial s
+  pub denominators : HasPrimitive s
+
+module _ (s : ProperTerm) (h : IsGathered s) where
+  abbrev shared : List Factor
+  shared = in_both s.up s.down
+
+  up_distinct : NoFormTwice s.up
+  up_distinct = h.lists.up.factors.distinct
+
+  down_distinct : NoFormTwice s.down
+  down_distinct = h.lists.down.factors.distinct
+
+  -- no form is left in both lists
+  none_shared : AllByRecursion (λ x. AllByRecursion (λ y. y.form ≢ x.form) (without s.down shared)) (without s.up shared)
+  none_shared = each_pair (λ x. 1 ≤ power_of x.form s.up - power_of x.form shared) (λ y. 1 ≤ power_of y.form s.down - power_of y.form shared) (λ x y. y.form ≢ x.form)
+      (λ x y p q e. both x.form p (subst (λ f. 1 ≤ power_of f s.down - power_of f shared) e q)) (without s.up shared) (without s.down shared)
+      (left_powers s.up s.up shared (own_powers s.up up_distinct)) (left_powers s.down s.down shared (own_powers s.down down_distinct))
+    where
+      both : (f : LinearForm) → 1 ≤ power_of f s.up - power_of f shared → 1 ≤ power_of f s.down - power_of f shared → ⊥
+      both f p q = omega (arith, p, q, both_power f s.up s.down up_distinct)
+
+  few_left : total_power (without s.up shared) + total_power (without s.down shared) + total_power s.over + 2 * total_power shared ≤ 24
+  few_left =
+      let distinct : NoFormTwice shared = both_distinct s.up s.down up_distinct in
+      let up = total_parts s.up shared up_distinct distinct (both_in_first s.up s.down (list_some s.up h.lists.up))
+          (at_most_own s.up shared up_distinct (λ f. both_below_first f s.up s.down up_distinct)) in
+      let down = total_parts s.down shared down_distinct distinct (both_in_second s.up s.down)
+          (at_most_own s.down shared down_distinct (λ f. both_below_second f s.up s.down)) in
+      omega (arith, up, down, h.lists.few)
+
+  cancelled_proper : IsTermInBounds s → IsProper (cancelled s)
+  cancelled_proper bounds = record {
+    poly = record { passes = h.polynomial.belongs; fits = bounds.poly };
+    poly_not_zero = h.polynomial.not_zero;
+    scale = reduced_lowest s.scale h.fractions.scale bounds.scale.top bounds.scale.bottom;
+    n_base = reduced_lowest s.n_base h.fractions.n_base bounds.n_base.top bounds.n_base.bottom;
+    k_base = reduced_lowest s.k_base h.fractions.k_base bounds.k_base.top bounds.k_base.bottom;
+    up = record { each = without_each s.up shared h.lists.up.factors.each; distinct = without_distinct s.up shared up_distinct };
+    down = record { each = without_each s.down shared h.lists.down.factors.each; distinct = without_distinct s.down shared down_distinct };
+    over = h.lists.over.factors;
+    over_primitive = h.denominators.over;
+    guard = record { each = both_each s.up s.down h.lists.up.factors.each; distinct = both_distinct s.up s.down up_distinct };
+  }
+
+  pub cancelled_plain : IsTermInBounds s → IsPlain (cancelled s)
+  cancelled_plain bounds = record {
+    proper = cancelled_proper bounds;
+    cancelled = none_shared;
+    up = without_forms IsWithinLimits s.up shared h.lists.up.limits;
+    down = without_forms IsWithinLimits s.down shared h.lists.down.limits;
+    over = h.lists.over.limits;
+    guard = both_forms IsWithinLimits s.up s.down h.lists.up.limits;
+    few = few_left;
+  }
