@@ -36,7 +36,10 @@ pub product_not_nought : (p q : Meaning) → Belongs p → Belongs q → p ≢ i
     → in_n_and_k.product p q ≢ in_n_and_k.nought
 product_not_nought p q g h m n e = ⊎_elim m n (domain.no_divisors (p, g) (q, h) e)
 
-unit_not_nought : in_n_and_k.unit ≢ in_n_and_k.nought
+pub unit_belongs : Belongs in_n_and_k.unit
+unit_belongs = closed.unit
+
+pub unit_not_nought : in_n_and_k.unit ≢ in_n_and_k.nought
 unit_not_nought e = cc
 
 pub power_not_nought : (p : Meaning) (e : ℕ) → Belongs p → p ≢ in_n_and_k.nought → poly_power p e ≢ in_n_and_k.nought

@@ -1,9 +1,11 @@
 -- The class of a tree is a plain term, where its numbers are in bounds.
 use Rattle.std.proofs.Common.{◌≡◌, ◌≢◌, ℕ, zero, suc, ◌+◌, ◌-◌, ◌*◌, ◌≤◌, ◌<◌, ◌^◌, min, refl, ap, sym, ◌∙◌, List, [], ◌∷◌, arith, subst, ⊎_elim}
 use Rattle.std.proofs.lemmas.Int.{ints}
+use Rattle.std.proofs.lemmas.Nat.Gcd.{dvd_antisymm}
+use Rattle.std.proofs.Math.Nat.{one-dvd}
 use Rattle.std.specs.Prelude.{ℤ, pos, negsuc, Ok}
 use Rattle.std.specs.List.{AllByRecursion}
-use Rattle.hypergeometric.specs.Fraction.{Fraction}
+use Rattle.hypergeometric.specs.Fraction.{Fraction, of_whole}
 use Rattle.hypergeometric.specs.LinearForm.{LinearForm, Factor}
 use Rattle.hypergeometric.specs.FormOrder.{IsForm, IsFactor, NoFormTwice, AreFactors}
 use Rattle.hypergeometric.specs.ProperTerm.{ProperTerm}
@@ -14,6 +16,7 @@ use Rattle.lin_form.specs.FactorLists.{factor_with, power_of}
 use Rattle.term_classes.specs.Steps.{Steps, gives, ◌then◌}
 use Rattle.term_classes.specs.Walk.{unit_term, in_both, without, cancelled, walk, class_of, class_of_quotient}
 use Rattle.term_classes.specs.ClassBounds.{IsTermInBounds}
+use Rattle.term_classes.proofs.PassingPolynomials.{unit_belongs, unit_not_nought}
 use Rattle.term_classes.proofs.StepLaws.{Gave, then_gave, same_Ok}
 use Rattle.term_classes.proofs.SharedForms.{all_more, power_by, power_here, power_later, same_or_other, absent_power, own_powers, both_by, both_forms, both_distinct, both_in_first, both_in_second, both_below_first, both_below_second, without_by, without_forms, without_distinct}
 use Rattle.term_classes.proofs.SharedTotals.{total_parts}
@@ -126,3 +129,39 @@ module _ (s : ProperTerm) (h : IsGathered s) where
     guard = both_forms IsWithinLimits s.up s.down h.lists.up.limits;
     few = few_left;
   }
+
+pub gathered_keeps : (t : Tree) (w : ℤ) (s s' : ProperTerm) → w ≢ pos 0 → IsGathered s → (walk t w s).outcome ≡ Ok s' → IsGathered s'
+gathered_keeps t w s s' n h e = record {
+  lists = walk_keeps HasLists lists_keep t w s s' n h.lists e;
+  fractions = walk_keeps HasReduced fractions_keep t w s s' n h.fractions e;
+  polynomial = walk_keeps HasPolynomial polynomials_keep t w s s' n h.polynomial e;
+  denominators = walk_keeps HasPrimitive denominators_keep t w s s' n h.denominators e;
+}
+
+one_reduced : IsReduced (of_whole (pos 1))
+one_reduced = record { not_zero = one_not_zero; positive = omega (arith, ints); coprime = λ d p q. dvd_antisymm p (one-dvd d) }
+
+pub unit_gathered : IsGathered unit_term
+unit_gathered = record {
+  lists = unit_lists;
+  fractions = record { scale = one_reduced; n_base = one_reduced; k_base = one_reduced };
+  polynomial = record { belongs = unit_belongs; not_zero = unit_not_nought };
+  denominators = record { over = tt };
+}
+
+-- the gathered term is in bounds where the cancelled one is
+plain_in_bounds : (s f : ProperTerm) → IsGathered s → cancelled s ≡ f → IsTermInBounds f → IsPlain f
+plain_in_bounds s f h e = subst (λ f. IsTermInBounds f → IsPlain f) e
+    (λ bounds. cancelled_plain s h (record { poly = bounds.poly; scale = bounds.scale; n_base = bounds.n_base; k_base = bounds.k_base }))
+
+pub class_is_plain : (t : Tree) (f : ProperTerm) → (class_of t).outcome ≡ Ok f → IsTermInBounds f → IsPlain f
+class_is_plain t f e =
+    let g = then_gave (walk t (pos 1) unit_term) (λ f. gives (cancelled f)) f e in
+    plain_in_bounds g.value f (gathered_keeps t (pos 1) unit_term g.value one_not_zero unit_gathered g.first) (same_Ok (cancelled g.value) f g.second)
+
+pub class_of_quotient_is_plain : (a b : Tree) (f : ProperTerm) → (class_of_quotient a b).outcome ≡ Ok f → IsTermInBounds f → IsPlain f
+class_of_quotient_is_plain a b f e =
+    let g = then_gave (walk a (pos 1) unit_term) (λ f. walk b (negsuc 0) f then (λ g. gives (cancelled g))) f e in
+    let h = then_gave (walk b (negsuc 0) g.value) (λ g. gives (cancelled g)) f g.second in
+    plain_in_bounds h.value f (gathered_keeps b (negsuc 0) g.value h.value minus_one_not_zero
+    (gathered_keeps a (pos 1) unit_term g.value one_not_zero unit_gathered g.first) h.first) (same_Ok (cancelled h.value) f h.second)

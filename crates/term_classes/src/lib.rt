@@ -1,6 +1,6 @@
 //! The class of a tree: the proper term that it stands for, or why it stands for none.
 //!
-//! `specs/` has the definitions, `proofs/` the laws that the crates above cite. The function here does nothing: its contract is a law.
+//! `specs/` has the definitions, `proofs/` the laws that the crates above cite. The functions here do nothing: the contract of each is a law.
 //! Read `specs/Refusals.antt`, `specs/Steps.antt`, `specs/Sought.antt` (the polynomial and the constant of a tree), then `specs/Walk.antt`
 //! (the class), and `specs/ClassValues.antt` (what it means that a term has the value of a tree).
 #![tactic(auto)]
@@ -10,6 +10,8 @@ ghost use Rattle.hypergeometric.specs.ProperTerm.{ProperTerm};
 ghost use Rattle.hypergeometric.specs.Tree.{Tree};
 ghost use Rattle.hypergeometric.specs.TreeValue.{term_value};
 ghost use Rattle.term_classes.specs.Walk.{class_of, class_of_quotient};
+ghost use Rattle.hypergeometric.specs.TermFacts.{IsPlain};
+ghost use Rattle.term_classes.specs.ClassBounds.{IsTermInBounds};
 ghost use Rattle.term_classes.specs.ClassValues.{HasValue, quotient_value};
 
 /// The class of a tree, where it has one, is defined exactly where the tree's own value is, and has that value there, at all whole n
@@ -17,4 +19,11 @@ ghost use Rattle.term_classes.specs.ClassValues.{HasValue, quotient_value};
 pub fn classes_have_the_values()
     ensures tree { (t : Tree) (f : ProperTerm) → (class_of t).outcome ≡ Ok f → HasValue f (term_value t) }
     ensures quotient { (a b : Tree) (f : ProperTerm) → (class_of_quotient a b).outcome ≡ Ok f → HasValue f (quotient_value a b) }
+{}
+
+/// The class of a tree is a plain term where its numbers are in bounds: no form stands above and below, all forms are within the limits,
+/// denominators are primitive, fractions are in lowest terms, and nothing is 0. The like for the quotient of two trees.
+pub fn classes_are_plain()
+    ensures tree { (t : Tree) (f : ProperTerm) → (class_of t).outcome ≡ Ok f → IsTermInBounds f → IsPlain f }
+    ensures quotient { (a b : Tree) (f : ProperTerm) → (class_of_quotient a b).outcome ≡ Ok f → IsTermInBounds f → IsPlain f }
 {}
