@@ -1,7 +1,6 @@
 -- What exponentials, factorials and binomial coefficients of the walk over a tree do to the value of a term.
-use Rattle.std.proofs.Common.{◌≡◌, ◌≢◌, ℕ, zero, suc, ◌+◌, refl, ap, sym, ◌∙◌, List, [], ◌∷◌, Bool, true, false, Option, Some, None, subst}
-use Rattle.std.proofs.lemmas.Option.{same_Some, none-some}
-use Rattle.std.specs.Prelude.{ℤ, pos, negsuc, ◌+ℤ◌, ◌-ℤ◌, ◌*ℤ◌, neg_ℤ, if◌then◌else◌, Ok}
+use Rattle.std.proofs.Common.{◌≡◌, ℕ, refl, ap, sym, ◌∙◌, [], ◌∷◌, Option, Some, None, subst}
+use Rattle.std.specs.Prelude.{ℤ, pos, ◌+ℤ◌, ◌-ℤ◌, ◌*ℤ◌, neg_ℤ, if◌then◌else◌, Ok}
 use Rattle.ring_solver.proofs.Read.{ring_z, reading_z}
 use Rattle.ring_laws.specs.Meaning.{Meaning}
 use Rattle.hypergeometric.specs.Fraction.{Fraction, of_whole, fraction_difference, fraction_product, whole_power}
@@ -13,17 +12,16 @@ use Rattle.hypergeometric.specs.TreeValue.{tree_value, factorial_power, at_whole
 use Rattle.hypergeometric.proofs.PlainTerms.{difference_of_wholes}
 use Rattle.term_classes.specs.Refusals.{improper}
 use Rattle.term_classes.specs.Divisors.{lowest_terms, raised_fraction}
-use Rattle.term_classes.specs.Steps.{Steps, of_number, gives, makes, refuses, ◌then◌}
-use Rattle.term_classes.specs.Forms.{is_zero, linear_form_of, form_difference, difference_size, limited_form}
+use Rattle.term_classes.specs.Steps.{Steps, of_number, makes, ◌then◌}
+use Rattle.term_classes.specs.Forms.{linear_form_of, form_difference, difference_size, limited_form}
 use Rattle.term_classes.specs.Sought.{polynomial_sought}
-use Rattle.term_classes.specs.Walk.{with_n_base, with_k_base, with_scale, place_of, with_factorial, form_or_refused, base_or_refused, argument_sought, not_negative, times_exponential, times_binomial}
+use Rattle.term_classes.specs.Walk.{with_n_base, with_k_base, with_scale, place_of, with_factorial, form_or_refused, argument_sought, not_negative, times_exponential, times_binomial}
 use Rattle.term_classes.proofs.SameValues.{◌≅◌, same, same_itself, same_chain, same_turned, same_products, same_sums, same_negatives}
-use Rattle.term_classes.proofs.FractionPowers.{product_one, product_assoc}
+use Rattle.term_classes.proofs.FractionPowers.{product_one}
 use Rattle.term_classes.proofs.NonzeroPowers.{power_at_sum}
-use Rattle.term_classes.proofs.StepLaws.{Gave, then_gave, same_Ok, not_refused}
+use Rattle.term_classes.proofs.StepLaws.{then_gave, same_Ok, not_refused}
 use Rattle.term_classes.proofs.PolynomialValues.{tree_has}
 use Rattle.term_classes.proofs.SoughtPolynomials.{sought_is}
-use Rattle.term_classes.proofs.ConstantPowers.{not_zero}
 use Rattle.term_classes.proofs.TermProducts.{IsTimes, times_both, times_same, scale_times, n_base_times, k_base_times}
 use Rattle.term_classes.proofs.FormValues.{linear_value, at_whole_value}
 use Rattle.term_classes.proofs.WalkRows.{factorial_row}

@@ -1,22 +1,22 @@
 -- Cancelling factorials that stand above and below, and guarding them, changes neither the value of a term nor where it is defined.
-use Rattle.std.proofs.Common.{◌≡◌, ◌≢◌, ℕ, zero, suc, ◌-◌, ◌<◌, ◌≤◌, refl, ap, sym, ◌∙◌, List, [], ◌∷◌, arith, subst, ⊎_elim, inl, inr}
+use Rattle.std.proofs.Common.{◌≡◌, ◌≢◌, ℕ, zero, suc, ◌<◌, ◌≤◌, refl, ap, sym, ◌∙◌, List, [], ◌∷◌, arith, subst}
 use Rattle.std.proofs.lemmas.Int.{ints}
-use Rattle.std.specs.Prelude.{ℤ, pos, negsuc, ◌*ℤ◌, ◌≤ℤ◌, ◌↔◌}
+use Rattle.std.specs.Prelude.{ℤ, pos, negsuc, ◌*ℤ◌, ◌≤ℤ◌}
 use Rattle.std.specs.List.{AllByRecursion}
 use Rattle.ring_solver.proofs.Read.{ring_z, reading_z}
-use Rattle.hypergeometric.specs.Fraction.{Fraction, IsDefined, ◌≈◌, of_whole, fraction_product, fraction_inverse, natural_power, whole_power}
+use Rattle.hypergeometric.specs.Fraction.{Fraction, IsDefined, of_whole, fraction_product, fraction_inverse, natural_power, whole_power}
 use Rattle.hypergeometric.specs.LinearForm.{LinearForm, Factor, form_value, factorial, factorial_value, inverse_factorial_value, product_over}
 use Rattle.hypergeometric.specs.FormOrder.{NoFormTwice}
 use Rattle.hypergeometric.specs.ProperTerm.{ProperTerm, NoneNegative, NoneZero, IsDefinedAt, poly_value, proper_value, HasFractions}
 use Rattle.hypergeometric.proofs.FractionLaws.{one_not_zero}
 use Rattle.hypergeometric.proofs.Definedness.{proper_value_defined}
-use Rattle.lin_form.specs.FactorLists.{factor_with, power_of}
+use Rattle.lin_form.specs.FactorLists.{power_of}
 use Rattle.term_classes.specs.ClassValues.{HasValue}
 use Rattle.term_classes.specs.Walk.{with_lists, in_both, without, cancelled}
 use Rattle.term_classes.proofs.SameValues.{◌≅◌, same, same_itself, same_chain, same_turned, same_products, same_equal, times_zero, zero_times}
 use Rattle.term_classes.proofs.FractionPowers.{fraction_same, product_one, one_product, products_exchange, power_of_product}
-use Rattle.term_classes.proofs.SharedForms.{AllSome, all_more, power_here, power_by, own_powers, both_forms, both_distinct, both_in_first, both_in_second, both_below_first, both_below_second, both_some, without_forms, without_by}
-use Rattle.term_classes.proofs.SharedProducts.{AtMost, product_parts}
+use Rattle.term_classes.proofs.SharedForms.{AllSome, all_more, power_by, own_powers, both_forms, both_distinct, both_in_first, both_in_second, both_below_first, both_below_second, without_forms, without_by}
+use Rattle.term_classes.proofs.SharedProducts.{product_parts}
 
 -- a defined product has defined factors
 left_defined : (f g : Fraction) → IsDefined (fraction_product f g) → IsDefined f

@@ -1,8 +1,7 @@
 -- The class of a tree has its tree's value, and the class of a quotient that of the quotient.
-use Rattle.std.proofs.Common.{◌≡◌, ◌≢◌, ℕ, refl, ap, sym, ◌∙◌, [], ◌∷◌, arith, subst}
+use Rattle.std.proofs.Common.{◌≡◌, ◌≢◌, ap, ◌∙◌, [], ◌∷◌, arith, subst}
 use Rattle.std.proofs.lemmas.Int.{ints}
 use Rattle.std.specs.Prelude.{ℤ, pos, negsuc, ◌*ℤ◌, Ok}
-use Rattle.ring_solver.proofs.Read.{ring_z, reading_z}
 use Rattle.poly_laws.proofs.Keeps.{value_at_keeps}
 use Rattle.hypergeometric.specs.Fraction.{Fraction, of_whole, fraction_product}
 use Rattle.hypergeometric.specs.ProperTerm.{ProperTerm, proper_value, HasFractions}
@@ -11,17 +10,17 @@ use Rattle.hypergeometric.specs.TreePolynomial.{in_n_and_k}
 use Rattle.hypergeometric.specs.TreeValue.{tree_value, term_value}
 use Rattle.hypergeometric.proofs.FractionLaws.{one_not_zero, equal_chain}
 use Rattle.hypergeometric.proofs.PlainTerms.{plain_value}
-use Rattle.term_classes.specs.Steps.{Steps, gives, ◌then◌}
+use Rattle.term_classes.specs.Steps.{gives, ◌then◌}
 use Rattle.term_classes.specs.Walk.{unit_term, walk, cancelled, class_of, class_of_quotient}
 use Rattle.term_classes.specs.ClassValues.{HasValue, quotient_value}
-use Rattle.term_classes.proofs.SameValues.{◌≅◌, same, same_itself, same_chain, same_turned, same_products, same_defined, same_equal}
-use Rattle.term_classes.proofs.FractionPowers.{one_product, product_assoc}
-use Rattle.term_classes.proofs.StepLaws.{Gave, then_gave, same_Ok}
+use Rattle.term_classes.proofs.SameValues.{◌≅◌, same, same_chain, same_defined, same_equal}
+use Rattle.term_classes.proofs.FractionPowers.{one_product}
+use Rattle.term_classes.proofs.StepLaws.{then_gave, same_Ok}
 use Rattle.term_classes.proofs.TermProducts.{IsTimes, times_both}
 use Rattle.term_classes.proofs.WalkValues.{walk_multiplies}
 use Rattle.term_classes.proofs.WalkKeeps.{walk_keeps}
 use Rattle.term_classes.proofs.GatheredLists.{HasLists, lists_keep, list_some}
-use Rattle.term_classes.proofs.CancelledValues.{CanCancel, cancelled_has}
+use Rattle.term_classes.proofs.CancelledValues.{cancelled_has}
 
 unit_fractions : HasFractions unit_term
 unit_fractions = record {

@@ -1,6 +1,5 @@
 -- Constants, negated and to constant powers, as values of trees.
-use Rattle.std.proofs.Common.{◌≡◌, ◌≢◌, ℕ, zero, suc, refl, ap, sym, ◌∙◌, List, [], ◌∷◌, Bool, true, false, ◌&&◌, ◌||◌, Option, Some, None, arith, subst, true≢false}
-use Rattle.std.proofs.lemmas.Int.{ints}
+use Rattle.std.proofs.Common.{◌≡◌, ◌≢◌, ℕ, refl, ap, sym, ◌∙◌, List, [], ◌∷◌, Bool, true, false, Option, Some, None, subst, true≢false}
 use Rattle.std.proofs.lemmas.Bool.{cond_both, eqb-true}
 use Rattle.std.proofs.lemmas.Option.{same_Some, none-some}
 use Rattle.std.specs.Prelude.{ℤ, pos, negsuc, ◌+ℤ◌, ◌*ℤ◌, neg_ℤ, unsigned_abs, if◌then◌else◌, nat_eq, Ok}
@@ -10,26 +9,23 @@ use Rattle.ring_laws.specs.Meaning.{Meaning, items}
 use Rattle.ring_laws.specs.Wholes.{number_of}
 use Rattle.ring_laws.specs.WholeDomain.{abs_nought}
 use Rattle.poly_laws.specs.Values.{value_at, horner}
-use Rattle.hypergeometric.specs.Fraction.{Fraction, IsDefined, of_whole, fraction_negative, fraction_product, natural_power, whole_power}
+use Rattle.hypergeometric.specs.Fraction.{Fraction, IsDefined, of_whole, fraction_negative, fraction_product, whole_power}
 use Rattle.hypergeometric.specs.ProperTerm.{poly_value, IsNonzero}
-use Rattle.hypergeometric.specs.Tree.{Tree, tree, Node, literal, variable_n, variable_k, sum_of, product_of, power_of, factorial_of, binomial_of, Parts, no_parts, part}
-use Rattle.hypergeometric.specs.TreePolynomial.{constant_in_n, constant_in_k, constant_of, tree_polynomial, node_polynomial, constant_exponent}
-use Rattle.hypergeometric.specs.TreeValue.{tree_value, node_value, product_value, part_power, at_whole}
-use Rattle.hypergeometric.proofs.FractionLaws.{one_not_zero, product_not_zero}
+use Rattle.hypergeometric.specs.Tree.{Tree}
+use Rattle.hypergeometric.specs.TreePolynomial.{constant_in_n, constant_in_k}
+use Rattle.hypergeometric.specs.TreeValue.{tree_value}
 use Rattle.hypergeometric.proofs.PlainTerms.{whole_power_of_one}
 use Rattle.hypergeometric.proofs.Definedness.{natural_power_defined}
-use Rattle.term_classes.specs.Refusals.{exponent_limit}
-use Rattle.term_classes.specs.Steps.{Steps, Counterpart, of_fraction, gives, makes, within_limit, ◌then◌}
+use Rattle.term_classes.specs.Steps.{Counterpart, of_fraction, gives, makes, ◌then◌}
 use Rattle.term_classes.specs.Divisors.{lowest_terms, raised_fraction, size_of_top, size_of_bottom}
 use Rattle.term_classes.specs.Forms.{is_zero}
-use Rattle.term_classes.specs.Sought.{where_some, in_front, FractionFactor, divides_by_zero, factor_fraction, product_of_fractions, product_made, power_made, whole_fraction, negative_of, polynomial_sought, node_polynomial_sought, constant_sought, node_constant_sought, constants_sought}
+use Rattle.term_classes.specs.Sought.{power_made, negative_of}
 use Rattle.term_classes.proofs.SameValues.{◌≅◌, same, same_itself, same_chain, same_turned, same_products, same_whole_powers}
 use Rattle.term_classes.proofs.FractionPowers.{fraction_same, whole_power_of_product, natural_then_whole}
-use Rattle.term_classes.proofs.NonzeroPowers.{turned_over, inverse_is_turned_over, power_then_power, negated_exponent}
+use Rattle.term_classes.proofs.NonzeroPowers.{power_then_power}
 use Rattle.term_classes.proofs.LowestTerms.{lowest_same, lowest_bottom_zero, raised_same, raised_natural, raised_nonzero}
-use Rattle.term_classes.proofs.StepLaws.{Gave, then_gave, same_Ok}
-use Rattle.term_classes.proofs.PolynomialValues.{node_has, power_value}
-use Rattle.term_classes.proofs.SoughtPolynomials.{sought_is, node_sought_is}
+use Rattle.term_classes.proofs.StepLaws.{same_Ok}
+use Rattle.term_classes.proofs.PolynomialValues.{power_value}
 
 -- a polynomial that is a constant has its value at each point
 module _ (n k : ℤ) where

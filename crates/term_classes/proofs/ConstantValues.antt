@@ -1,12 +1,12 @@
 -- The value of a tree for which a constant is found: the constant, to every whole power.
-use Rattle.std.proofs.Common.{◌≡◌, ◌≢◌, ℕ, zero, suc, refl, ap, sym, ◌∙◌, List, [], ◌∷◌, Bool, true, false, ◌&&◌, ◌||◌, Option, Some, None, subst, true≢false}
+use Rattle.std.proofs.Common.{◌≡◌, ℕ, refl, ap, sym, ◌∙◌, List, [], ◌∷◌, Bool, true, false, ◌&&◌, ◌||◌, Option, Some, None, subst, true≢false}
 use Rattle.std.proofs.lemmas.Option.{same_Some, none-some}
-use Rattle.std.specs.Prelude.{ℤ, pos, negsuc, ◌*ℤ◌, neg_ℤ, unsigned_abs, Ok}
+use Rattle.std.specs.Prelude.{ℤ, pos, ◌*ℤ◌, neg_ℤ, unsigned_abs, Ok}
 use Rattle.ring_laws.specs.Meaning.{Meaning, items}
-use Rattle.hypergeometric.specs.Fraction.{Fraction, IsDefined, of_whole, fraction_product, whole_power}
+use Rattle.hypergeometric.specs.Fraction.{Fraction, of_whole, fraction_product, whole_power}
 use Rattle.hypergeometric.specs.ProperTerm.{poly_value, IsNonzero}
 use Rattle.hypergeometric.specs.Tree.{Tree, tree, Node, literal, variable_n, variable_k, sum_of, product_of, power_of, factorial_of, binomial_of, Parts, no_parts, part}
-use Rattle.hypergeometric.specs.TreePolynomial.{constant_in_k, constant_of, tree_polynomial, node_polynomial, constant_exponent}
+use Rattle.hypergeometric.specs.TreePolynomial.{constant_in_k, constant_of, node_polynomial}
 use Rattle.hypergeometric.specs.TreeValue.{tree_value, node_value, product_value, part_power, at_whole}
 use Rattle.hypergeometric.proofs.FractionLaws.{one_not_zero, product_not_zero}
 use Rattle.hypergeometric.proofs.PlainTerms.{whole_power_of_one}
@@ -15,11 +15,11 @@ use Rattle.term_classes.specs.Steps.{Steps, of_fraction, gives, within_limit, �
 use Rattle.term_classes.specs.Divisors.{lowest_terms}
 use Rattle.term_classes.specs.Forms.{is_zero}
 use Rattle.term_classes.specs.Sought.{where_some, in_front, FractionFactor, divides_by_zero, factor_fraction, product_of_fractions, product_made, power_made, whole_fraction, negative_of, polynomial_sought, node_polynomial_sought, constant_sought, node_constant_sought, constants_sought, top_sizes, bottom_sizes}
-use Rattle.term_classes.proofs.SameValues.{◌≅◌, same, same_itself, same_chain, same_turned, same_products, same_whole_powers}
+use Rattle.term_classes.proofs.SameValues.{◌≅◌, same, same_chain, same_turned, same_products, same_whole_powers}
 use Rattle.term_classes.proofs.FractionPowers.{whole_power_of_product}
-use Rattle.term_classes.proofs.NonzeroPowers.{turned_over, inverse_is_turned_over, negated_exponent}
+use Rattle.term_classes.proofs.NonzeroPowers.{inverse_is_turned_over, negated_exponent}
 use Rattle.term_classes.proofs.LowestTerms.{lowest_same, lowest_bottom_zero}
-use Rattle.term_classes.proofs.StepLaws.{Gave, then_gave, same_Ok}
+use Rattle.term_classes.proofs.StepLaws.{then_gave, same_Ok}
 use Rattle.term_classes.proofs.PolynomialValues.{node_has, power_value}
 use Rattle.term_classes.proofs.SoughtPolynomials.{sought_is, node_sought_is}
 use Rattle.term_classes.proofs.ConstantPowers.{IsConstant, constant_value, negated_constant, power_made_has, unless_given, not_zero}

@@ -1,15 +1,14 @@
 -- The value of the linear form of a polynomial, of its primitive part, and of a whole number that a fraction is.
-use Rattle.std.proofs.Common.{◌≡◌, ◌≢◌, ℕ, zero, suc, ◌+◌, ◌*◌, ◌%◌, ◌<◌, refl, ap, sym, ◌∙◌, List, [], ◌∷◌, Bool, true, false, ◌&&◌, Option, Some, None, arith, subst, true≢false}
+use Rattle.std.proofs.Common.{◌≡◌, ◌≢◌, ℕ, ◌%◌, refl, ap, sym, ◌∙◌, List, [], ◌∷◌, Option, Some, None, arith, subst, true≢false}
 use Rattle.std.proofs.lemmas.Int.{ints, quot-rem, unsigned_abs-mul}
 use Rattle.std.proofs.lemmas.Bool.{cond_both, eqb-true, eq-eqb}
 use Rattle.std.proofs.lemmas.Option.{same_Some, none-some}
 use Rattle.std.proofs.lemmas.Nat.Gcd.{dvd_trans}
 use Rattle.std.proofs.Math.Nat.{mul-mod_left}
-use Rattle.std.specs.Prelude.{ℤ, pos, negsuc, ◌+ℤ◌, ◌*ℤ◌, neg_ℤ, unsigned_abs, if◌then◌else◌, nat_eq}
+use Rattle.std.specs.Prelude.{ℤ, pos, ◌+ℤ◌, ◌*ℤ◌, unsigned_abs, if◌then◌else◌, nat_eq}
 use Rattle.std.specs.Int.{◌∣◌, IsGcd}
 use Rattle.std.specs.Int.RustNames.{int_div, int_rem}
-use Rattle.ring_solver.proofs.Integers.{integers}
-use Rattle.ring_solver.proofs.Linear.{cancel, from1, from3}
+use Rattle.ring_solver.proofs.Linear.{cancel}
 use Rattle.ring_solver.proofs.Read.{ring_z, reading_z}
 use Rattle.ring_laws.specs.Meaning.{Meaning, items}
 use Rattle.ring_laws.specs.Wholes.{number_of}
@@ -22,7 +21,7 @@ use Rattle.hypergeometric.specs.ProperTerm.{poly_value}
 use Rattle.hypergeometric.specs.TreePolynomial.{constant_in_n}
 use Rattle.hypergeometric.specs.TreeValue.{whole_number_of, at_whole}
 use Rattle.hypergeometric.proofs.FractionLaws.{one_not_zero}
-use Rattle.term_classes.specs.Divisors.{greatest_common_divisor, turned_where}
+use Rattle.term_classes.specs.Divisors.{greatest_common_divisor}
 use Rattle.term_classes.specs.Forms.{with_numbers, form_of_coefficients, form_of_items, linear_form_of, is_negative_first, content_of_form, primitive_form}
 use Rattle.term_classes.proofs.SameValues.{◌≅◌, times_zero}
 use Rattle.lin_form.specs.Forms.{IsGreatestDivisor}

@@ -1,21 +1,20 @@
 -- The lists that a walk over a tree gathers: no form twice, powers of at least 1, all forms within the limits, and few of them.
-use Rattle.std.proofs.Common.{◌≡◌, ◌≢◌, ℕ, zero, suc, ◌+◌, ◌≤◌, ◌<◌, ◌^◌, ◌/◌, refl, ap, sym, ◌∙◌, List, [], ◌∷◌, Option, Some, None, arith, subst}
+use Rattle.std.proofs.Common.{◌≡◌, ℕ, ◌+◌, ◌≤◌, ◌<◌, ◌^◌, List, [], ◌∷◌, arith}
 use Rattle.std.proofs.lemmas.Bool.{cond_both}
 use Rattle.std.proofs.Math.Nat.{div-le_self}
-use Rattle.std.specs.Prelude.{ℤ, pos, unsigned_abs, cond}
+use Rattle.std.specs.Prelude.{ℤ, unsigned_abs}
 use Rattle.std.specs.List.{AllByRecursion}
 use Rattle.std.specs.Int.RustNames.{int_div}
-use Rattle.ring_laws.specs.Meaning.{Meaning}
 use Rattle.ring_laws.proofs.Quotients.{abs_div}
 use Rattle.hypergeometric.specs.LinearForm.{LinearForm, Factor}
-use Rattle.hypergeometric.specs.FormOrder.{IsForm, IsFactor, NoFormTwice, AreFactors}
+use Rattle.hypergeometric.specs.FormOrder.{IsForm, IsFactor, AreFactors}
 use Rattle.hypergeometric.specs.ProperTerm.{ProperTerm}
 use Rattle.hypergeometric.specs.TermFacts.{IsWithinLimits, AllWithinLimits, total_power}
 use Rattle.lin_form.specs.FactorLists as lists
 use Rattle.lin_form.proofs.Lookups.{factors_stay}
 use Rattle.term_classes.specs.Forms.{content_of_form, primitive_form}
 use Rattle.term_classes.proofs.SharedForms.{AllSome, power_by, all_more}
-use Rattle.term_classes.proofs.WalkKeeps.{RowsKeep, IsFew, with_up, with_down, with_over}
+use Rattle.term_classes.proofs.WalkKeeps.{RowsKeep, IsFew}
 
 pub total_with : (l : LinearForm) (w : ℕ) (xs : List Factor) → total_power (lists.with_factor l w xs) ≡ total_power xs + w
 total_with l w [] = omega arith

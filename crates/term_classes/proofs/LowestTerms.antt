@@ -1,10 +1,8 @@
 -- Lowest terms, and powers by numerators and denominators, leave the value.
-use Rattle.std.proofs.Common.{◌≡◌, ◌≢◌, ℕ, zero, suc, ◌+◌, ◌*◌, ◌%◌, ◌<◌, Bool, true, false, ◌&&◌, cond, refl, ap, sym, ◌∙◌, [], ◌∷◌, arith, subst}
-use Rattle.std.proofs.lemmas.Int.{ints, quot-rem, unsigned_abs-mul}
-use Rattle.std.proofs.lemmas.Bool.{and_parts, cond_both, eqb-true}
-use Rattle.std.proofs.lemmas.Nat.Gcd.{dvd_of_mod-eq-zero, mod-eq-zero_of_dvd}
-use Rattle.std.proofs.Math.Nat.{one-dvd}
-use Rattle.std.specs.Prelude.{ℤ, pos, negsuc, ◌*ℤ◌, neg_ℤ, unsigned_abs, int_lt, nat_eq}
+use Rattle.std.proofs.Common.{◌≡◌, ℕ, zero, suc, Bool, true, false, refl, ap, sym, ◌∙◌, [], ◌∷◌, arith, subst}
+use Rattle.std.proofs.lemmas.Int.{ints, quot-rem}
+use Rattle.std.proofs.lemmas.Nat.Gcd.{mod-eq-zero_of_dvd}
+use Rattle.std.specs.Prelude.{ℤ, pos, negsuc, ◌*ℤ◌, unsigned_abs, int_lt}
 use Rattle.std.specs.Int.{◌∣◌}
 use Rattle.std.specs.Int.RustNames.{int_div, int_rem}
 use lib.IntN.{pow, *ℤ_comm}
@@ -13,9 +11,9 @@ use Rattle.ring_solver.proofs.Linear.{from1, from2}
 use Rattle.ring_solver.proofs.Read.{ring_z, reading_z}
 use Rattle.ring_laws.specs.WholeDomain.{abs_nought}
 use Rattle.ring_laws.proofs.Quotients.{abs_rem}
-use Rattle.hypergeometric.specs.Fraction.{Fraction, IsDefined, of_whole, fraction_product, fraction_inverse, natural_power, whole_power}
+use Rattle.hypergeometric.specs.Fraction.{Fraction, IsDefined, fraction_product, natural_power, whole_power}
 use Rattle.hypergeometric.specs.ProperTerm.{IsNonzero}
-use Rattle.term_classes.specs.Divisors.{divides, greatest_divisor_up_to, greatest_common_divisor, turned_where, lowest_terms, raised_fraction}
+use Rattle.term_classes.specs.Divisors.{divides, greatest_common_divisor, turned_where, lowest_terms, raised_fraction}
 use Rattle.term_classes.proofs.GreatestDivisors.{greatest_is_gcd}
 use Rattle.term_classes.proofs.SameValues.{◌≅◌, same, same_chain, same_turned, same_natural_powers, zero_times}
 use Rattle.term_classes.proofs.FractionPowers.{fraction_with, fraction_same}

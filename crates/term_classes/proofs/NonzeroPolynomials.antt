@@ -1,12 +1,9 @@
 -- The polynomial that a walk over a tree gathers belongs to the polynomials, and isn't 0.
-use Rattle.std.proofs.Common.{◌≡◌, ◌≢◌, ℕ, refl, ap, sym, ◌∙◌, Option, Some, None}
-use Rattle.std.proofs.lemmas.Option.{none-some}
-use Rattle.std.specs.Prelude.{pos}
-use Rattle.ring_laws.specs.Meaning.{Meaning, items}
+use Rattle.std.proofs.Common.{◌≢◌}
 use Rattle.hypergeometric.specs.ProperTerm.{ProperTerm}
-use Rattle.hypergeometric.specs.TreePolynomial.{in_n_and_k, poly_power, constant_in_k}
+use Rattle.hypergeometric.specs.TreePolynomial.{in_n_and_k, poly_power}
 use Rattle.term_classes.proofs.PassingPolynomials.{Belongs, power_belongs, product_belongs, product_not_nought, power_not_nought}
-use Rattle.term_classes.proofs.VaryingForms.{IsVarying, varying_not_nought}
+use Rattle.term_classes.proofs.VaryingForms.{varying_not_nought}
 use Rattle.term_classes.proofs.WalkKeeps.{RowsKeep}
 
 pub record HasPolynomial (s : ProperTerm) : Type 0 where

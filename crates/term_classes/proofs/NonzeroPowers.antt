@@ -1,15 +1,14 @@
 -- Powers of fractions other than 0, and where they are the same although the numbers aren't.
-use Rattle.std.proofs.Common.{◌≡◌, ◌≢◌, ℕ, zero, suc, ◌+◌, ◌*◌, refl, ap, sym, ◌∙◌, [], ◌∷◌, ⊎_elim, inl, inr, arith, add-one, subst}
+use Rattle.std.proofs.Common.{◌≡◌, ◌≢◌, ℕ, zero, suc, ◌*◌, refl, ap, sym, ◌∙◌, [], ◌∷◌, ⊎_elim, arith, add-one}
 use Rattle.std.proofs.lemmas.Int.{ints}
 use Rattle.std.specs.Prelude.{ℤ, pos, negsuc, ◌+ℤ◌, ◌*ℤ◌, neg_ℤ}
-use lib.IntN.{+ℤ_assoc}
 use Rattle.ring_solver.proofs.Linear.{product_zero}
 use Rattle.ring_solver.proofs.Read.{ring_z, reading_z}
-use Rattle.hypergeometric.specs.Fraction.{Fraction, IsDefined, of_whole, fraction_product, fraction_inverse, natural_power, whole_power}
+use Rattle.hypergeometric.specs.Fraction.{Fraction, of_whole, fraction_product, fraction_inverse, natural_power, whole_power}
 use Rattle.hypergeometric.specs.ProperTerm.{IsNonzero}
 use Rattle.hypergeometric.proofs.FractionLaws.{one_not_zero, product_not_zero}
-use Rattle.term_classes.proofs.SameValues.{◌≅◌, same, same_itself, same_chain, same_turned, same_products, same_natural_powers, product_zero_where}
-use Rattle.term_classes.proofs.FractionPowers.{fraction_with, product_comm, product_assoc, one_product, product_one, power_twice, negated_power, natural_then_whole, negative_then_natural, negative_then_negative}
+use Rattle.term_classes.proofs.SameValues.{◌≅◌, same, same_itself, same_chain, same_turned, same_products, same_natural_powers}
+use Rattle.term_classes.proofs.FractionPowers.{fraction_with, product_comm, product_assoc, one_product, product_one, negated_power, natural_then_whole, negative_then_natural, negative_then_negative}
 
 pub product_nonzero : (f g : Fraction) → IsNonzero f → IsNonzero g → IsNonzero (fraction_product f g)
 product_nonzero f g p q = record {

@@ -1,17 +1,16 @@
 -- The polynomials of trees belong to the polynomials in k over those in n, and their products and powers aren't 0 where none of them is.
-use Rattle.std.proofs.Common.{◌≡◌, ◌≢◌, ℕ, zero, suc, refl, ap, sym, ◌∙◌, List, [], ◌∷◌, Bool, true, false, Option, Some, None, subst, ⊎_elim}
+use Rattle.std.proofs.Common.{◌≡◌, ◌≢◌, ℕ, zero, suc, refl, Bool, true, false, Option, Some, None, subst, ⊎_elim}
 use Rattle.std.proofs.lemmas.Option.{same_Some, none-some}
-use Rattle.std.specs.Prelude.{ℤ, pos, negsuc, IsTrue, if◌then◌else◌, nat_lt}
+use Rattle.std.specs.Prelude.{ℤ, pos, negsuc, IsTrue, nat_lt}
 use Rattle.ring_laws.specs.Meaning.{Meaning}
-use Rattle.ring_laws.specs.Algebra.{Laws, Closed, Passing}
+use Rattle.ring_laws.specs.Algebra.{Closed}
 use Rattle.ring_laws.specs.Division.{DomainLaws}
 use Rattle.ring_laws.specs.WholeDomain.{whole_domain}
-use Rattle.ring_laws.specs.WholeLaws.{whole_laws}
 use Rattle.poly_laws.specs.Values.{level}
 use Rattle.poly_laws.proofs.Equal.{level_laws}
 use Rattle.poly_laws.proofs.PolyDomain.{poly_domain}
 use Rattle.hypergeometric.specs.Tree.{Tree, tree, Node, literal, variable_n, variable_k, sum_of, product_of, power_of, factorial_of, binomial_of, Parts, no_parts, part}
-use Rattle.hypergeometric.specs.TreePolynomial.{in_n_and_k, poly_n, poly_k, poly_power, constant_of, combined, signed_poly, raised, tree_polynomial, node_polynomial, sum_polynomial, product_polynomial, constant_exponent}
+use Rattle.hypergeometric.specs.TreePolynomial.{in_n_and_k, poly_n, poly_k, poly_power, signed_poly, raised, tree_polynomial, node_polynomial, sum_polynomial, product_polynomial, constant_exponent}
 use Rattle.term_classes.proofs.PolynomialValues.{from_combined, unless}
 
 -- it belongs to the polynomials

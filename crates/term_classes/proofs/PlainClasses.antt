@@ -1,29 +1,29 @@
 -- The class of a tree is a plain term, where its numbers are in bounds.
-use Rattle.std.proofs.Common.{◌≡◌, ◌≢◌, ℕ, zero, suc, ◌+◌, ◌-◌, ◌*◌, ◌≤◌, ◌<◌, ◌^◌, min, refl, ap, sym, ◌∙◌, List, [], ◌∷◌, arith, subst, ⊎_elim}
+use Rattle.std.proofs.Common.{◌≡◌, ◌≢◌, ◌+◌, ◌-◌, ◌*◌, ◌≤◌, min, ap, ◌∙◌, List, [], ◌∷◌, arith, subst, ⊎_elim}
 use Rattle.std.proofs.lemmas.Int.{ints}
 use Rattle.std.proofs.lemmas.Nat.Gcd.{dvd_antisymm}
 use Rattle.std.proofs.Math.Nat.{one-dvd}
 use Rattle.std.specs.Prelude.{ℤ, pos, negsuc, Ok}
 use Rattle.std.specs.List.{AllByRecursion}
-use Rattle.hypergeometric.specs.Fraction.{Fraction, of_whole}
+use Rattle.hypergeometric.specs.Fraction.{of_whole}
 use Rattle.hypergeometric.specs.LinearForm.{LinearForm, Factor}
-use Rattle.hypergeometric.specs.FormOrder.{IsForm, IsFactor, NoFormTwice, AreFactors}
+use Rattle.hypergeometric.specs.FormOrder.{IsFactor, NoFormTwice}
 use Rattle.hypergeometric.specs.ProperTerm.{ProperTerm}
-use Rattle.hypergeometric.specs.TermFacts.{IsWithinLimits, AllWithinLimits, IsProper, IsPlain, total_power}
+use Rattle.hypergeometric.specs.TermFacts.{IsWithinLimits, IsProper, IsPlain, total_power}
 use Rattle.hypergeometric.specs.Tree.{Tree}
 use Rattle.hypergeometric.proofs.FractionLaws.{one_not_zero}
 use Rattle.lin_form.specs.FactorLists.{factor_with, power_of}
-use Rattle.term_classes.specs.Steps.{Steps, gives, ◌then◌}
+use Rattle.term_classes.specs.Steps.{gives, ◌then◌}
 use Rattle.term_classes.specs.Walk.{unit_term, in_both, without, cancelled, walk, class_of, class_of_quotient}
 use Rattle.term_classes.specs.ClassBounds.{IsTermInBounds}
 use Rattle.term_classes.proofs.PassingPolynomials.{unit_belongs, unit_not_nought}
-use Rattle.term_classes.proofs.StepLaws.{Gave, then_gave, same_Ok}
-use Rattle.term_classes.proofs.SharedForms.{all_more, power_by, power_here, power_later, same_or_other, absent_power, own_powers, both_by, both_forms, both_distinct, both_in_first, both_in_second, both_below_first, both_below_second, without_by, without_forms, without_distinct}
+use Rattle.term_classes.proofs.StepLaws.{then_gave, same_Ok}
+use Rattle.term_classes.proofs.SharedForms.{all_more, power_here, power_later, same_or_other, absent_power, own_powers, both_by, both_forms, both_distinct, both_in_first, both_in_second, both_below_first, both_below_second, without_by, without_forms, without_distinct}
 use Rattle.term_classes.proofs.SharedTotals.{total_parts}
 use Rattle.term_classes.proofs.CancelledValues.{at_most_own}
-use Rattle.term_classes.proofs.WalkKeeps.{RowsKeep, walk_keeps}
+use Rattle.term_classes.proofs.WalkKeeps.{walk_keeps}
 use Rattle.term_classes.proofs.WalkValues.{minus_one_not_zero}
-use Rattle.term_classes.proofs.GatheredLists.{IsGatheredList, HasLists, lists_keep, list_some}
+use Rattle.term_classes.proofs.GatheredLists.{HasLists, lists_keep, list_some}
 use Rattle.term_classes.proofs.ReducedFractions.{IsReduced, HasReduced, fractions_keep, reduced_lowest}
 use Rattle.term_classes.proofs.NonzeroPolynomials.{HasPolynomial, polynomials_keep}
 use Rattle.term_classes.proofs.PrimitiveDenominators.{HasPrimitive, denominators_keep}

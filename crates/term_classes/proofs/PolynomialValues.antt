@@ -1,23 +1,21 @@
 -- The value of a tree that is a polynomial: that of the polynomial, to the power.
-use Rattle.std.proofs.Common.{◌≡◌, ◌≢◌, ℕ, zero, suc, refl, ap, sym, ◌∙◌, List, [], ◌∷◌, Bool, true, false, Option, Some, None, arith, subst}
-use Rattle.std.proofs.lemmas.Int.{ints}
+use Rattle.std.proofs.Common.{◌≡◌, ℕ, zero, suc, refl, ap, sym, ◌∙◌, [], ◌∷◌, Bool, true, false, Option, Some, None, subst}
 use Rattle.std.proofs.lemmas.Bool.{cond_both, eqb-true}
 use Rattle.std.proofs.lemmas.Option.{same_Some, none-some}
 use lib.IntN.{*ℤ_comm}
 use Rattle.std.specs.Prelude.{ℤ, pos, negsuc, ◌+ℤ◌, ◌*ℤ◌, neg_ℤ, unsigned_abs, if◌then◌else◌, nat_eq, nat_lt}
 use Rattle.ring_solver.proofs.Read.{ring_z, reading_z}
-use Rattle.ring_laws.specs.Meaning.{Meaning, number, listed, items}
-use Rattle.ring_laws.specs.Wholes.{number_of}
-use Rattle.poly_laws.specs.Values.{value_at, KeepsOps}
+use Rattle.ring_laws.specs.Meaning.{Meaning}
+use Rattle.poly_laws.specs.Values.{KeepsOps}
 use Rattle.poly_laws.proofs.Keeps.{value_at_keeps}
 use Rattle.hypergeometric.specs.Fraction.{Fraction, of_whole, fraction_sum, fraction_negative, fraction_product, natural_power, whole_power}
 use Rattle.hypergeometric.specs.ProperTerm.{poly_value}
 use Rattle.hypergeometric.specs.Tree.{Tree, tree, Node, literal, variable_n, variable_k, sum_of, product_of, power_of, factorial_of, binomial_of, Parts, no_parts, part}
-use Rattle.hypergeometric.specs.TreePolynomial.{in_n_and_k, poly_n, poly_k, poly_power, constant_of, combined, signed_poly, raised, tree_polynomial, node_polynomial, sum_polynomial, product_polynomial, constant_exponent}
+use Rattle.hypergeometric.specs.TreePolynomial.{in_n_and_k, poly_n, poly_k, poly_power, combined, signed_poly, raised, tree_polynomial, node_polynomial, sum_polynomial, product_polynomial, constant_exponent}
 use Rattle.hypergeometric.specs.TreeValue.{tree_value, node_value, sum_value, product_value, signed_value, at_whole}
 use Rattle.hypergeometric.proofs.PlainTerms.{whole_power_of_one}
-use Rattle.term_classes.proofs.SameValues.{◌≅◌, same, same_itself, same_chain, same_turned, same_products, same_sums, same_negatives, same_whole_powers}
-use Rattle.term_classes.proofs.FractionPowers.{product_one, one_product, whole_power_of_product, natural_then_whole}
+use Rattle.term_classes.proofs.SameValues.{◌≅◌, same, same_itself, same_chain, same_products, same_sums, same_negatives, same_whole_powers}
+use Rattle.term_classes.proofs.FractionPowers.{product_one, whole_power_of_product, natural_then_whole}
 
 -- the values of the operations
 module _ (n k : ℤ) where

@@ -1,17 +1,17 @@
 -- The denominators that a walk over a tree gathers are primitive forms, and none is constant.
-use Rattle.std.proofs.Common.{◌≡◌, ◌≢◌, ℕ, zero, suc, refl, ap, sym, ◌∙◌, List, [], ◌∷◌, Bool, true, false, cond, arith, subst, ◌⊎◌, inl, inr, ⊎_elim}
+use Rattle.std.proofs.Common.{◌≡◌, ◌≢◌, ℕ, zero, suc, refl, ap, sym, ◌∙◌, Bool, true, false, cond, arith, subst, ◌⊎◌, inl, inr, ⊎_elim}
 use Rattle.std.proofs.lemmas.Int.{ints}
 use Rattle.std.proofs.lemmas.Bool.{ltb-true, eqb-true}
 use Rattle.std.specs.Prelude.{ℤ, pos, negsuc, ◌*ℤ◌, ◌<ℤ◌, unsigned_abs, int_lt, ltb}
 use Rattle.std.specs.List.{AllByRecursion}
 use lib.IntN.{*ℤ_comm}
 use Rattle.ring_laws.specs.WholeDomain.{abs_nought}
-use Rattle.hypergeometric.specs.LinearForm.{LinearForm, Factor}
+use Rattle.hypergeometric.specs.LinearForm.{LinearForm}
 use Rattle.hypergeometric.specs.FormOrder.{IsPositiveFirst, IsPrimitive}
 use Rattle.hypergeometric.specs.ProperTerm.{ProperTerm}
 use Rattle.hypergeometric.specs.TermFacts.{IsNotConstant}
 use Rattle.lin_form.specs.Forms.{IsGreatestDivisor}
-use Rattle.lin_form.proofs.PrimitiveForms.{AreQuotients, IsNotZero, SignIs, primitive_quotients}
+use Rattle.lin_form.proofs.PrimitiveForms.{IsNotZero, SignIs, primitive_quotients}
 use Rattle.term_classes.specs.Divisors.{turned_where}
 use Rattle.term_classes.specs.Forms.{is_zero, is_negative_first, content_of_form, primitive_form}
 use Rattle.term_classes.proofs.SameValues.{zero_or_not, zero_times}

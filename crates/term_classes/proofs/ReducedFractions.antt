@@ -1,5 +1,5 @@
 -- Lowest terms have no common divisor and a positive denominator, and a walk over a tree leaves the scale and the bases in lowest terms.
-use Rattle.std.proofs.Common.{◌≡◌, ◌≢◌, ℕ, zero, suc, ◌+◌, ◌*◌, ◌<◌, refl, ap, sym, ◌∙◌, arith, subst, Bool, true, false}
+use Rattle.std.proofs.Common.{◌≡◌, ◌≢◌, ℕ, zero, suc, ◌+◌, ◌*◌, ◌<◌, refl, ap, sym, ◌∙◌, arith, subst}
 use Rattle.std.proofs.lemmas.Int.{ints, unsigned_abs-mul}
 use Rattle.std.proofs.lemmas.Bool.{cond_both, ltb-true}
 use Rattle.std.proofs.lemmas.Nat.Gcd.{dvd_antisymm}
@@ -7,15 +7,13 @@ use Rattle.std.proofs.Math.Nat.{one-dvd, mul-dvd-mul_right, dvd_of_mul-dvd-mul_l
 use Rattle.std.specs.Prelude.{ℤ, pos, negsuc, ◌*ℤ◌, ◌<ℤ◌, neg_ℤ, unsigned_abs, int_lt, ltb}
 use Rattle.std.specs.Int.{◌∣◌, IsGcd}
 use lib.IntN.{*ℤ_comm}
-use Rattle.ring_laws.specs.WholeDomain.{abs_nought}
 use Rattle.hypergeometric.specs.Fraction.{Fraction, fraction_product}
 use Rattle.hypergeometric.specs.ProperTerm.{ProperTerm, IsNonzero}
 use Rattle.hypergeometric.specs.TermFacts.{IsNumber, IsLowest}
 use Rattle.lin_form.proofs.Signs.{same_sign}
-use Rattle.term_classes.specs.Divisors.{turned_where, lowest_terms, raised_fraction, greatest_common_divisor}
+use Rattle.term_classes.specs.Divisors.{turned_where, lowest_terms, raised_fraction}
 use Rattle.term_classes.proofs.GreatestDivisors.{greatest_is_gcd, greatest_positive}
 use Rattle.term_classes.proofs.LowestTerms.{divisor_of, is_turned, top_times, bottom_times, turned_size, lowest_nonzero}
-use Rattle.term_classes.proofs.TermProducts.{multiplied_nonzero}
 use Rattle.term_classes.proofs.NonzeroPowers.{product_nonzero}
 use Rattle.term_classes.proofs.LowestTerms.{raised_nonzero}
 use Rattle.term_classes.proofs.WalkKeeps.{RowsKeep}

@@ -6,7 +6,7 @@ use Rattle.ring_solver.proofs.Integers.{integers}
 use Rattle.ring_solver.proofs.Linear.{product_zero, from1, from2}
 use Rattle.ring_solver.proofs.Read.{ring_z, reading_z}
 use Rattle.hypergeometric.specs.Fraction.{Fraction, IsDefined, ◌≈◌, of_whole, fraction_sum, fraction_negative, fraction_product, fraction_inverse, natural_power, whole_power}
-use Rattle.hypergeometric.proofs.FractionLaws.{cancel_factor, one_not_zero}
+use Rattle.hypergeometric.proofs.FractionLaws.{cancel_factor}
 
 infix 4 ◌≅◌
 pub record ◌≅◌ (f g : Fraction) : Type 0 where

@@ -1,7 +1,7 @@
 -- Lists of forms, the forms that two of them share, and what is left of one without them.
-use Rattle.std.proofs.Common.{◌≡◌, ◌≢◌, ℕ, zero, suc, ◌+◌, ◌-◌, ◌≤◌, min, refl, ap, sym, ◌∙◌, List, [], ◌∷◌, Bool, true, false, cond, arith, subst, true≢false, ◌⊎◌, inl, inr}
-use Rattle.std.proofs.lemmas.Bool.{cond_both, eqb-true, eq-eqb}
-use Rattle.std.specs.Prelude.{if◌then◌else◌, nat_eq}
+use Rattle.std.proofs.Common.{◌≡◌, ◌≢◌, ℕ, zero, suc, ◌-◌, ◌≤◌, min, refl, ap, sym, ◌∙◌, List, [], ◌∷◌, Bool, true, false, cond, arith, subst, true≢false, ◌⊎◌, inl, inr}
+use Rattle.std.proofs.lemmas.Bool.{cond_both, eqb-true}
+use Rattle.std.specs.Prelude.{nat_eq}
 use Rattle.std.specs.List.{AllByRecursion}
 use Rattle.hypergeometric.specs.LinearForm.{LinearForm, Factor}
 use Rattle.hypergeometric.specs.FormOrder.{NoFormTwice}

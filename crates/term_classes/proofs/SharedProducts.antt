@@ -1,13 +1,13 @@
 -- The product over a list is that over what is left of it, times that over the forms taken from it.
-use Rattle.std.proofs.Common.{◌≡◌, ◌≢◌, ℕ, zero, suc, ◌+◌, ◌-◌, ◌≤◌, refl, ap, sym, ◌∙◌, List, [], ◌∷◌, arith, subst, ◌⊎◌, inl, inr}
-use Rattle.std.specs.Prelude.{ℤ, pos, ◌*ℤ◌}
+use Rattle.std.proofs.Common.{◌≡◌, ◌≢◌, ◌+◌, ◌-◌, ◌≤◌, refl, ap, sym, ◌∙◌, List, [], ◌∷◌, arith, subst, ◌⊎◌, inl, inr}
+use Rattle.std.specs.Prelude.{ℤ, pos}
 use Rattle.std.specs.List.{AllByRecursion}
 use Rattle.hypergeometric.specs.Fraction.{Fraction, of_whole, fraction_product, natural_power}
 use Rattle.hypergeometric.specs.LinearForm.{LinearForm, Factor, form_value, product_over}
 use Rattle.hypergeometric.specs.FormOrder.{NoFormTwice}
-use Rattle.lin_form.specs.FactorLists.{factor_with, power_of}
+use Rattle.lin_form.specs.FactorLists.{power_of}
 use Rattle.term_classes.specs.Walk.{without}
-use Rattle.term_classes.proofs.FractionPowers.{product_one, one_product, product_assoc, product_comm, products_exchange, power_of_sum}
+use Rattle.term_classes.proofs.FractionPowers.{one_product, products_exchange, power_of_sum}
 use Rattle.term_classes.proofs.NonzeroPowers.{product_moved}
 use Rattle.term_classes.proofs.SharedForms.{IsAbsent, power_here, power_later, same_or_other, absent_power, without_by}
 

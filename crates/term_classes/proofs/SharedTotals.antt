@@ -1,10 +1,10 @@
 -- The powers of a list add up to those that are left of it and those taken from it.
-use Rattle.std.proofs.Common.{◌≡◌, ◌≢◌, ℕ, zero, suc, ◌+◌, ◌-◌, ◌≤◌, refl, ap, sym, ◌∙◌, List, [], ◌∷◌, arith, subst, ◌⊎◌, inl, inr}
+use Rattle.std.proofs.Common.{◌≡◌, ◌≢◌, ℕ, ◌+◌, ◌≤◌, refl, ap, sym, ◌∙◌, List, [], ◌∷◌, arith, subst, ◌⊎◌, inl, inr}
 use Rattle.std.specs.List.{AllByRecursion}
-use Rattle.hypergeometric.specs.LinearForm.{LinearForm, Factor}
+use Rattle.hypergeometric.specs.LinearForm.{Factor}
 use Rattle.hypergeometric.specs.FormOrder.{NoFormTwice}
 use Rattle.hypergeometric.specs.TermFacts.{total_power}
-use Rattle.lin_form.specs.FactorLists.{factor_with, power_of}
+use Rattle.lin_form.specs.FactorLists.{power_of}
 use Rattle.term_classes.specs.Walk.{without}
 use Rattle.term_classes.proofs.SharedForms.{IsAbsent, power_here, power_later, same_or_other, absent_power, without_by}
 

@@ -1,14 +1,14 @@
 -- What is found where a polynomial is sought is the polynomial of the tree, or that there is none.
-use Rattle.std.proofs.Common.{◌≡◌, ℕ, zero, suc, ◌≤◌, refl, ap, sym, ◌∙◌, List, [], ◌∷◌, Bool, true, false, Option, Some, None, arith}
+use Rattle.std.proofs.Common.{◌≡◌, ℕ, suc, ◌≤◌, refl, ap, ◌∙◌, List, [], Bool, true, false, Option, Some, None, arith}
 use Rattle.std.proofs.lemmas.Bool.{leb-true, ltb-true, cond_both}
-use Rattle.std.specs.Prelude.{ℤ, pos, negsuc, unsigned_abs, if◌then◌else◌, nat_le, nat_lt, Ok}
+use Rattle.std.specs.Prelude.{ℤ, pos, negsuc, unsigned_abs, if◌then◌else◌, nat_lt, Ok}
 use Rattle.ring_laws.specs.Meaning.{Meaning}
 use Rattle.hypergeometric.specs.Tree.{Tree, tree, Node, literal, variable_n, variable_k, sum_of, product_of, power_of, factorial_of, binomial_of, Parts, no_parts, part}
 use Rattle.hypergeometric.specs.TreePolynomial.{in_n_and_k, poly_n, poly_k, poly_power, constant_of, combined, signed_poly, raised, tree_polynomial, node_polynomial, sum_polynomial, product_polynomial}
 use Rattle.term_classes.specs.Refusals.{exponent_limit}
-use Rattle.term_classes.specs.Steps.{Steps, Counterpart, of_polynomial, gives, within_limit, ◌then◌}
+use Rattle.term_classes.specs.Steps.{Counterpart, of_polynomial, gives, within_limit, ◌then◌}
 use Rattle.term_classes.specs.Sought.{size_raised, sum_of_polynomials, product_of_polynomials, sizes_added, sizes_multiplied, signed_polynomial, in_front, made_of, raised_at, where_some, where_natural, polynomial_sought, node_polynomial_sought, summands_sought, factors_sought}
-use Rattle.term_classes.proofs.StepLaws.{Gave, then_gave, same_Ok, limit_gave}
+use Rattle.term_classes.proofs.StepLaws.{then_gave, same_Ok, limit_gave}
 
 abbrev where_there : {A B : Type 0} → (A → B) → Option A → Option B
 where_there f None = None

@@ -1,11 +1,10 @@
 -- What steps that gave something say of the steps that they are made of.
-use Rattle.std.proofs.Common.{◌≡◌, ℕ, Bool, true, false, List, refl, ap, Option, Some, None}
+use Rattle.std.proofs.Common.{◌≡◌, ℕ, Bool, true, false, refl, ap}
 use Rattle.std.specs.Prelude.{nat_le, if◌then◌else◌, Result, Ok, Err}
 use Rattle.std.specs.Result.{result_ok}
 use Rattle.std.proofs.lemmas.Option.{same_Some}
 use Rattle.term_classes.specs.Refusals.{Limit, Refusal, limit, capped}
-use Rattle.term_classes.specs.Steps.{Steps, Operation, gives, refuses, after, within_limit, ◌then◌}
-use Rattle.term_classes.specs.Sought.{where_some}
+use Rattle.term_classes.specs.Steps.{Steps, gives, refuses, after, within_limit, ◌then◌}
 
 -- the first steps gave a value, and what follows from it gave y
 pub record Gave {A B : Type 0} (s : Steps A) (f : A → Steps B) (y : B) : Type 0 where

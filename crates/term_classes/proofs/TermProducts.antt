@@ -1,11 +1,10 @@
 -- Terms multiplied by a value: in their scale, their bases, their polynomial, or one of their lists.
-use Rattle.std.proofs.Common.{◌≡◌, ◌≢◌, ℕ, zero, suc, ◌+◌, refl, ap, sym, ◌∙◌, List, [], ◌∷◌, subst}
+use Rattle.std.proofs.Common.{◌≡◌, ℕ, ◌+◌, ap, sym, ◌∙◌, List, [], ◌∷◌}
 use Rattle.std.proofs.lemmas.Bool.{cond_both}
-use Rattle.std.specs.Prelude.{ℤ, pos, negsuc, ◌*ℤ◌}
-use Rattle.ring_solver.proofs.Read.{ring_z, reading_z}
+use Rattle.std.specs.Prelude.{ℤ, pos, ◌*ℤ◌}
 use Rattle.ring_laws.specs.Meaning.{Meaning}
 use Rattle.poly_laws.proofs.Keeps.{value_at_keeps}
-use Rattle.hypergeometric.specs.Fraction.{Fraction, IsDefined, of_whole, fraction_product, fraction_inverse, natural_power, whole_power}
+use Rattle.hypergeometric.specs.Fraction.{Fraction, of_whole, fraction_product, fraction_inverse, natural_power, whole_power}
 use Rattle.hypergeometric.specs.LinearForm.{LinearForm, Factor, form_value, product_over, factorial_value, inverse_factorial_value}
 use Rattle.hypergeometric.specs.ProperTerm.{ProperTerm, poly_value, proper_value, IsNonzero, HasFractions}
 use Rattle.hypergeometric.specs.TreePolynomial.{in_n_and_k}
@@ -14,7 +13,7 @@ use Rattle.lin_form.proofs.Lookups.{same_form_found}
 use Rattle.term_classes.specs.Divisors.{lowest_terms, raised_fraction}
 use Rattle.term_classes.specs.Walk.{with_poly, with_scale, with_n_base, with_k_base, with_lists}
 use Rattle.term_classes.proofs.SameValues.{◌≅◌, same, same_itself, same_chain, same_products, same_whole_powers}
-use Rattle.term_classes.proofs.FractionPowers.{fraction_same, product_comm, product_assoc, product_one, one_product, power_of_sum, whole_power_of_product}
+use Rattle.term_classes.proofs.FractionPowers.{product_comm, product_assoc, product_one, power_of_sum, whole_power_of_product}
 use Rattle.term_classes.proofs.NonzeroPowers.{product_nonzero, power_then_power}
 use Rattle.term_classes.proofs.LowestTerms.{lowest_same, lowest_nonzero, raised_same, raised_nonzero}
 

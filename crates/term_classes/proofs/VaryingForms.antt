@@ -1,5 +1,5 @@
 -- The linear form of a polynomial that is no number doesn't have two slopes 0.
-use Rattle.std.proofs.Common.{◌≡◌, ◌≢◌, ℕ, refl, ap, sym, ◌∙◌, List, [], ◌∷◌, Bool, true, false, ◌&&◌, not, Option, Some, None, true≢false, subst}
+use Rattle.std.proofs.Common.{◌≡◌, ◌≢◌, ap, sym, ◌∙◌, List, [], ◌∷◌, Bool, true, not, Some, None, true≢false, subst}
 use Rattle.std.proofs.lemmas.Bool.{and_parts}
 use Rattle.std.proofs.lemmas.Option.{same_Some, none-some}
 use Rattle.std.specs.Prelude.{ℤ, pos, IsTrue}
@@ -7,7 +7,7 @@ use Rattle.ring_laws.specs.Meaning.{Meaning, number, several, parted, items}
 use Rattle.ring_laws.specs.Algebra.{Algebra}
 use Rattle.ring_laws.specs.Wholes.{number_of, is_zero}
 use Rattle.poly_laws.specs.Lists.{is_trimmed}
-use Rattle.poly_laws.specs.PolyAlgebra.{every_passes, is_empty, poly_passes, poly_algebra}
+use Rattle.poly_laws.specs.PolyAlgebra.{every_passes, is_empty, poly_passes}
 use Rattle.poly_laws.specs.Values.{level}
 use Rattle.hypergeometric.specs.LinearForm.{LinearForm}
 use Rattle.hypergeometric.specs.TermFacts.{IsNotConstant}

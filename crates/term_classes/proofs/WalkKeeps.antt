@@ -1,5 +1,5 @@
 -- What each row of the walk over a tree keeps, the walk keeps.
-use Rattle.std.proofs.Common.{◌≡◌, ◌≢◌, ℕ, zero, suc, ◌+◌, ◌≤◌, refl, ap, sym, ◌∙◌, Bool, true, false, Option, Some, None, arith, subst, ⊎_elim}
+use Rattle.std.proofs.Common.{◌≡◌, ◌≢◌, ℕ, zero, suc, ◌+◌, ◌≤◌, refl, ap, ◌∙◌, Bool, true, false, Option, Some, None, arith, subst, ⊎_elim}
 use Rattle.std.proofs.lemmas.Int.{ints}
 use Rattle.std.proofs.lemmas.Bool.{leb-true}
 use Rattle.std.specs.Prelude.{ℤ, pos, negsuc, ◌*ℤ◌, neg_ℤ, unsigned_abs, int_lt, if◌then◌else◌, Ok}
@@ -10,9 +10,8 @@ use Rattle.hypergeometric.specs.LinearForm.{LinearForm}
 use Rattle.hypergeometric.specs.ProperTerm.{ProperTerm, IsNonzero}
 use Rattle.hypergeometric.specs.TermFacts.{IsWithinLimits, total_power}
 use Rattle.hypergeometric.specs.Tree.{Tree, tree, Node, literal, variable_n, variable_k, sum_of, product_of, power_of, factorial_of, binomial_of, Parts, no_parts, part}
-use Rattle.hypergeometric.specs.TreePolynomial.{in_n_and_k, poly_power, constant_in_k, constant_of, node_polynomial}
+use Rattle.hypergeometric.specs.TreePolynomial.{in_n_and_k, poly_power, constant_in_k, constant_of}
 use Rattle.hypergeometric.specs.TreeValue.{part_power}
-use Rattle.hypergeometric.proofs.FractionLaws.{one_not_zero}
 use Rattle.lin_form.specs.FactorLists as lists
 use Rattle.term_classes.specs.Refusals.{improper, slope_limit, offset_limit, exponent_limit, factors_limit}
 use Rattle.term_classes.specs.Steps.{Steps, gives, refuses, within_limit, ◌then◌}
@@ -20,7 +19,7 @@ use Rattle.term_classes.specs.Divisors.{lowest_terms, raised_fraction}
 use Rattle.term_classes.specs.Forms.{is_zero, linear_form_of, form_difference, content_of_form, primitive_form, limited_form, limited_exponent}
 use Rattle.term_classes.specs.Sought.{polynomial_sought, node_polynomial_sought, constant_sought}
 use Rattle.term_classes.specs.Walk.{with_poly, with_scale, with_n_base, with_k_base, with_lists, place_of, times_power, few_factors, with_factorial, with_denominator, times_number, times_polynomial, times_sought, form_or_refused, base_or_refused, argument_sought, not_negative, times_exponential, times_binomial, walk, walk_node, walk_parts}
-use Rattle.term_classes.proofs.StepLaws.{Gave, then_gave, same_Ok, limit_gave, not_refused}
+use Rattle.term_classes.proofs.StepLaws.{then_gave, same_Ok, limit_gave, not_refused}
 use Rattle.term_classes.proofs.SoughtPolynomials.{node_sought_is}
 use Rattle.term_classes.proofs.ConstantPowers.{not_zero}
 use Rattle.term_classes.proofs.ConstantValues.{constant_has}

@@ -1,36 +1,29 @@
 -- What each row of the walk over a tree does to the value of a term.
-use Rattle.std.proofs.Common.{◌≡◌, ◌≢◌, ℕ, zero, suc, ◌+◌, refl, ap, sym, ◌∙◌, List, [], ◌∷◌, Bool, true, false, Option, Some, None, subst}
-use Rattle.std.proofs.lemmas.Option.{same_Some, none-some}
-use Rattle.std.specs.Prelude.{ℤ, pos, negsuc, ◌+ℤ◌, ◌-ℤ◌, ◌*ℤ◌, neg_ℤ, unsigned_abs, int_lt, if◌then◌else◌, Ok}
-use Rattle.ring_solver.proofs.Read.{ring_z, reading_z}
+use Rattle.std.proofs.Common.{◌≡◌, ◌≢◌, ℕ, suc, ◌+◌, refl, ap, sym, ◌∙◌, Bool, true, false, Option, Some, None, subst}
+use Rattle.std.specs.Prelude.{ℤ, pos, negsuc, int_lt, if◌then◌else◌, Ok}
 use Rattle.ring_laws.specs.Meaning.{Meaning, items}
-use Rattle.hypergeometric.specs.Fraction.{Fraction, of_whole, fraction_difference, fraction_product, fraction_inverse, natural_power, whole_power}
+use Rattle.hypergeometric.specs.Fraction.{Fraction, of_whole, fraction_product, fraction_inverse, natural_power, whole_power}
 use Rattle.hypergeometric.specs.LinearForm.{LinearForm, form_value}
 use Rattle.hypergeometric.specs.ProperTerm.{ProperTerm, poly_value, IsNonzero, HasFractions}
-use Rattle.hypergeometric.specs.Tree.{Tree}
-use Rattle.hypergeometric.specs.TreePolynomial.{in_n_and_k, poly_power, constant_in_k, tree_polynomial}
-use Rattle.hypergeometric.specs.TreeValue.{tree_value, factorial_power, at_whole}
+use Rattle.hypergeometric.specs.TreePolynomial.{in_n_and_k, poly_power, constant_in_k}
+use Rattle.hypergeometric.specs.TreeValue.{factorial_power}
 use Rattle.hypergeometric.specs.TermFacts.{total_power}
 use Rattle.hypergeometric.proofs.FractionLaws.{one_not_zero}
-use Rattle.hypergeometric.proofs.PlainTerms.{difference_of_wholes}
 use Rattle.lin_form.specs.FactorLists as lists
 use Rattle.term_classes.specs.Refusals.{improper, factors_limit}
-use Rattle.term_classes.specs.Steps.{Steps, of_number, gives, makes, refuses, within_limit, ◌then◌}
+use Rattle.term_classes.specs.Steps.{Steps, gives, refuses, ◌then◌}
 use Rattle.term_classes.specs.Divisors.{lowest_terms, raised_fraction}
-use Rattle.term_classes.specs.Forms.{is_zero, linear_form_of, is_negative_constant, form_difference, difference_size, content_of_form, primitive_form, limited_form}
-use Rattle.term_classes.specs.Sought.{polynomial_sought}
-use Rattle.term_classes.specs.Walk.{with_lists, with_scale, with_poly, place_of, times_power, few_factors, with_factorial, with_denominator, times_number, times_polynomial, times_sought, form_or_refused, argument_sought, not_negative, times_exponential, times_binomial}
-use Rattle.term_classes.proofs.SameValues.{◌≅◌, same, same_itself, same_chain, same_turned, same_products, same_sums, same_negatives}
-use Rattle.term_classes.proofs.FractionPowers.{product_comm, product_one, whole_power_of_product}
-use Rattle.term_classes.proofs.NonzeroPowers.{power_at_sum}
+use Rattle.term_classes.specs.Forms.{is_zero, linear_form_of, content_of_form, primitive_form, limited_form}
+use Rattle.term_classes.specs.Walk.{with_lists, with_scale, with_poly, times_power, few_factors, with_factorial, with_denominator, times_number, times_polynomial, times_sought}
+use Rattle.term_classes.proofs.SameValues.{◌≅◌, same, same_chain, same_turned}
+use Rattle.term_classes.proofs.FractionPowers.{product_comm, whole_power_of_product}
 use Rattle.term_classes.proofs.PassingPolynomials.{Belongs}
 use Rattle.term_classes.proofs.VaryingForms.{IsVarying, varying_not_zero}
-use Rattle.term_classes.proofs.StepLaws.{Gave, then_gave, same_Ok, limit_gave, not_refused}
-use Rattle.term_classes.proofs.PolynomialValues.{tree_has, value_of_power}
-use Rattle.term_classes.proofs.SoughtPolynomials.{sought_is}
+use Rattle.term_classes.proofs.StepLaws.{then_gave, same_Ok, limit_gave, not_refused}
+use Rattle.term_classes.proofs.PolynomialValues.{value_of_power}
 use Rattle.term_classes.proofs.ConstantPowers.{constant_value, not_zero}
-use Rattle.term_classes.proofs.TermProducts.{IsTimes, times_both, times_same, scale_times, poly_times, n_base_times, k_base_times, up_times, down_times, over_times}
-use Rattle.term_classes.proofs.FormValues.{linear_value, content_not_zero, content_times, at_whole_value}
+use Rattle.term_classes.proofs.TermProducts.{IsTimes, times_both, times_same, scale_times, poly_times, up_times, down_times, over_times}
+use Rattle.term_classes.proofs.FormValues.{linear_value, content_not_zero, content_times}
 
 pub few_same : (s s' : ProperTerm) → (few_factors s).outcome ≡ Ok s' → s ≡ s'
 few_same s s' e = (limit_gave factors_limit 24 (total_power s.up + total_power s.down + total_power s.over) s s' e).same

@@ -1,14 +1,13 @@
 -- The walk over a tree multiplies the value of a term by that of the tree.
-use Rattle.std.proofs.Common.{◌≡◌, ◌≢◌, ℕ, zero, suc, refl, ap, sym, ◌∙◌, Bool, true, false, Option, Some, None, arith, subst}
+use Rattle.std.proofs.Common.{◌≡◌, ◌≢◌, ℕ, refl, ap, sym, ◌∙◌, Bool, true, false, Option, Some, None, arith, subst}
 use Rattle.std.proofs.lemmas.Int.{ints}
 use Rattle.ring_laws.specs.Meaning.{Meaning}
-use Rattle.std.proofs.lemmas.Option.{same_Some, none-some}
-use Rattle.std.specs.Prelude.{ℤ, pos, negsuc, ◌*ℤ◌, neg_ℤ, unsigned_abs, if◌then◌else◌, Ok}
+use Rattle.std.specs.Prelude.{ℤ, pos, negsuc, ◌*ℤ◌, unsigned_abs, if◌then◌else◌, Ok}
 use Rattle.hypergeometric.specs.Fraction.{Fraction, of_whole, fraction_product, whole_power}
 use Rattle.hypergeometric.specs.LinearForm.{LinearForm, form_value}
-use Rattle.hypergeometric.specs.ProperTerm.{ProperTerm, IsNonzero, HasFractions}
+use Rattle.hypergeometric.specs.ProperTerm.{ProperTerm, HasFractions}
 use Rattle.hypergeometric.specs.Tree.{Tree, tree, Node, literal, variable_n, variable_k, sum_of, product_of, power_of, factorial_of, binomial_of, Parts, no_parts, part}
-use Rattle.hypergeometric.specs.TreePolynomial.{constant_of, tree_polynomial, node_polynomial}
+use Rattle.hypergeometric.specs.TreePolynomial.{constant_of, tree_polynomial}
 use Rattle.hypergeometric.specs.TreeValue.{tree_value, node_value, product_value, part_power, factorial_power, at_whole}
 use Rattle.hypergeometric.proofs.FractionLaws.{one_not_zero}
 use Rattle.term_classes.specs.Refusals.{improper, exponent_limit}
@@ -17,18 +16,18 @@ use Rattle.term_classes.specs.Divisors.{lowest_terms, raised_fraction}
 use Rattle.term_classes.specs.Forms.{is_zero, linear_form_of, limited_form, limited_exponent}
 use Rattle.term_classes.specs.Sought.{polynomial_sought, node_polynomial_sought, constant_sought}
 use Rattle.term_classes.specs.Walk.{with_scale, place_of, times_sought, form_or_refused, argument_sought, not_negative, with_factorial, base_or_refused, times_exponential, walk, walk_node, walk_parts}
-use Rattle.term_classes.proofs.SameValues.{◌≅◌, same, same_itself, same_chain, same_turned, same_whole_powers}
+use Rattle.term_classes.proofs.SameValues.{same, same_chain, same_turned, same_whole_powers}
 use Rattle.term_classes.proofs.FractionPowers.{product_one}
 use Rattle.term_classes.proofs.PassingPolynomials.{node_belongs}
-use Rattle.term_classes.proofs.StepLaws.{Gave, then_gave, same_Ok, not_refused}
+use Rattle.term_classes.proofs.StepLaws.{then_gave, same_Ok, not_refused}
 use Rattle.term_classes.proofs.PolynomialValues.{node_has, power_value}
 use Rattle.term_classes.proofs.SoughtPolynomials.{sought_is, node_sought_is}
-use Rattle.term_classes.proofs.ConstantPowers.{IsConstant, not_zero}
+use Rattle.term_classes.proofs.ConstantPowers.{not_zero}
 use Rattle.term_classes.proofs.ConstantValues.{constant_has}
 use Rattle.term_classes.proofs.TermProducts.{IsTimes, times_nothing, times_both, times_same, scale_times}
 use Rattle.term_classes.proofs.FormValues.{at_whole_value}
 use Rattle.term_classes.proofs.WalkRows.{factorial_row, sought_row}
-use Rattle.term_classes.proofs.ArgumentRows.{HasForm, form_found, argument_found, exponential_row, binomial_row, skipped}
+use Rattle.term_classes.proofs.ArgumentRows.{form_found, argument_found, exponential_row, binomial_row, skipped}
 
 -- what is shown of each tree
 abbrev pub WalkMultiplies : Tree → Type 0
