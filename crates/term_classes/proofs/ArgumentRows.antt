@@ -30,7 +30,8 @@ use Rattle.term_classes.proofs.WalkRows.{factorial_row}
 abbrev pub HasForm : Tree → LinearForm → Type 0
 HasForm t l = (n k : ℤ) → tree_value t (pos 1) n k ≅ of_whole (form_value l n k)
 
-pub form_found : (reason : ℕ) (t : Tree) (p : Option Meaning) (l : LinearForm) → tree_polynomial t ≡ p → (form_or_refused reason t (linear_form_of p)).outcome ≡ Ok l → HasForm t l
+pub form_found : (reason : ℕ) (t : Tree) (p : Option Meaning) (l : LinearForm) → tree_polynomial t ≡ p
+    → (form_or_refused reason t (linear_form_of p)).outcome ≡ Ok l → HasForm t l
 form_found reason t None l is e = absurd (not_refused (improper reason (place_of t)) l e)
 form_found reason t (Some p) l is e = by (linear_form_of (Some p)) refl e
   where
@@ -49,7 +50,8 @@ three_powers : (f : Fraction) → IsNonzero f → (l : LinearForm) (w n k : ℤ)
     → fraction_product (fraction_product (whole_power f (w *ℤ l.offset)) (whole_power f (w *ℤ l.k_slope *ℤ k))) (whole_power f (w *ℤ l.n_slope *ℤ n))
     ≅ whole_power f (w *ℤ form_value l n k)
 three_powers f h l w n k =
-    same_chain (same_products (same_turned (power_at_sum f h (w *ℤ l.offset) (w *ℤ l.k_slope *ℤ k))) (same_itself (whole_power f (w *ℤ l.n_slope *ℤ n))))
+    same_chain (same_products (same_turned (power_at_sum f h (w *ℤ l.offset) (w *ℤ l.k_slope *ℤ k)))
+    (same_itself (whole_power f (w *ℤ l.n_slope *ℤ n))))
     (same_chain (same_turned (power_at_sum f h (w *ℤ l.offset +ℤ w *ℤ l.k_slope *ℤ k) (w *ℤ l.n_slope *ℤ n)))
     (same (ap (whole_power f) (joined w l.n_slope l.k_slope l.offset n k))))
   where
@@ -66,9 +68,11 @@ exponential_row at f l w s s' h nonzero e =
     let q = k_base_times a p.fractions f (w *ℤ l.k_slope) nonzero in
     let r = n_base_times b q.fractions f (w *ℤ l.n_slope) nonzero in
     subst (λ t. IsTimes s t (λ n k. whole_power f (w *ℤ form_value l n k))) (same_Ok c s' e)
-    (times_same s c (λ n k. fraction_product (fraction_product (whole_power f (w *ℤ l.offset)) (whole_power f (w *ℤ l.k_slope *ℤ k))) (whole_power f (w *ℤ l.n_slope *ℤ n)))
+    (times_same s c (λ n k. fraction_product (fraction_product (whole_power f (w *ℤ l.offset)) (whole_power f (w *ℤ l.k_slope *ℤ k)))
+    (whole_power f (w *ℤ l.n_slope *ℤ n)))
     (λ n k. whole_power f (w *ℤ form_value l n k))
-    (times_both s b c (λ n k. fraction_product (whole_power f (w *ℤ l.offset)) (whole_power f (w *ℤ l.k_slope *ℤ k))) (λ n k. whole_power f (w *ℤ l.n_slope *ℤ n))
+    (times_both s b c (λ n k. fraction_product (whole_power f (w *ℤ l.offset)) (whole_power f (w *ℤ l.k_slope *ℤ k)))
+    (λ n k. whole_power f (w *ℤ l.n_slope *ℤ n))
     (times_both s a b (λ n k. whole_power f (w *ℤ l.offset)) (λ n k. whole_power f (w *ℤ l.k_slope *ℤ k)) p q) r)
     (three_powers f nonzero l w))
 
@@ -77,7 +81,8 @@ difference_value : (upper lower : Tree) (l m : LinearForm) → HasForm upper l �
     → (n k : ℤ) → fraction_difference (tree_value upper (pos 1) n k) (tree_value lower (pos 1) n k) ≅ of_whole (form_value (form_difference l m) n k)
 difference_value upper lower l m p q n k =
     same_chain (same_sums (p n k) (same_negatives (q n k)))
-    (same (difference_of_wholes (form_value l n k) (form_value m n k) ∙ ap of_whole (parts l.n_slope l.k_slope l.offset m.n_slope m.k_slope m.offset n k)))
+    (same (difference_of_wholes (form_value l n k) (form_value m n k)
+    ∙ ap of_whole (parts l.n_slope l.k_slope l.offset m.n_slope m.k_slope m.offset n k)))
   where
     parts : (a b c d e f n k : ℤ) → (a *ℤ n +ℤ b *ℤ k +ℤ c) -ℤ (d *ℤ n +ℤ e *ℤ k +ℤ f) ≡ (a -ℤ d) *ℤ n +ℤ (b -ℤ e) *ℤ k +ℤ (c -ℤ f)
     parts a b c d e f n k = ring_z (a ∷ b ∷ c ∷ d ∷ e ∷ f ∷ n ∷ k ∷ []) (search reading_z depth 40 fits 20000) refl
@@ -94,21 +99,24 @@ abbrev pub limits_tested : LinearForm → LinearForm → LinearForm → ℤ → 
 limits_tested l m d w f = limited_form l then (λ l2. limited_form m then (λ m2. limited_form d then (λ d2. three_factorials l m d w f)))
 
 abbrev pub difference_made : ℕ → LinearForm → LinearForm → ℤ → ProperTerm → Steps ProperTerm
-difference_made at l m w f = makes at (of_number (difference_size l m)) (form_difference l m) then (λ d. not_negative at d then (λ d1. limits_tested l m d w f))
+difference_made at l m w f = makes at (of_number (difference_size l m)) (form_difference l m) then
+    (λ d. not_negative at d then (λ d1. limits_tested l m d w f))
 
 abbrev pub arguments_tested : ℕ → Tree → Tree → LinearForm → LinearForm → ℤ → ProperTerm → Steps ProperTerm
 arguments_tested at upper lower l m w f =
     not_negative (place_of upper) l then (λ l1. not_negative (place_of lower) m then (λ m1. difference_made at l m w f))
 
 three_rows : (l m d : LinearForm) (w : ℤ) (s s' : ProperTerm) → HasFractions s → (three_factorials l m d w s).outcome ≡ Ok s'
-    → IsTimes s s' (λ n k. fraction_product (factorial_power w (form_value l n k)) (fraction_product (factorial_power (neg_ℤ w) (form_value m n k)) (factorial_power (neg_ℤ w) (form_value d n k))))
+    → IsTimes s s' (λ n k. fraction_product (factorial_power w (form_value l n k))
+    (fraction_product (factorial_power (neg_ℤ w) (form_value m n k)) (factorial_power (neg_ℤ w) (form_value d n k))))
 three_rows l m d w s s' h e =
     let g = then_gave (with_factorial l w s) (λ g. with_factorial m (neg_ℤ w) g then (λ h. with_factorial d (neg_ℤ w) h)) s' e in
     let i = then_gave (with_factorial m (neg_ℤ w) g.value) (λ h. with_factorial d (neg_ℤ w) h) s' g.second in
     let p = factorial_row l w s g.value h g.first in
     let q = factorial_row m (neg_ℤ w) g.value i.value p.fractions i.first in
     let r = factorial_row d (neg_ℤ w) i.value s' q.fractions i.second in
-    times_both s g.value s' (λ n k. factorial_power w (form_value l n k)) (λ n k. fraction_product (factorial_power (neg_ℤ w) (form_value m n k)) (factorial_power (neg_ℤ w) (form_value d n k))) p
+    times_both s g.value s' (λ n k. factorial_power w (form_value l n k))
+    (λ n k. fraction_product (factorial_power (neg_ℤ w) (form_value m n k)) (factorial_power (neg_ℤ w) (form_value d n k))) p
     (times_both g.value i.value s' (λ n k. factorial_power (neg_ℤ w) (form_value m n k)) (λ n k. factorial_power (neg_ℤ w) (form_value d n k)) q r)
 
 pub binomial_row : (at : ℕ) (upper lower : Tree) (w : ℤ) (s s' : ProperTerm) → HasFractions s → (times_binomial at upper lower w s).outcome ≡ Ok s'
@@ -123,13 +131,15 @@ binomial_row at upper lower w s s' h e =
     let c = skipped (not_negative (place_of upper) l) (not_negative (place_of lower) m then (λ m1. difference_made at l m w s)) s' b.second in
     let d = skipped (not_negative (place_of lower) m) (difference_made at l m w s) s' c in
     let g = skipped (not_negative at (form_difference l m)) (limits_tested l m (form_difference l m) w s) s' d in
-    let i = skipped (limited_form l) (limited_form m then (λ m2. limited_form (form_difference l m) then (λ d2. three_factorials l m (form_difference l m) w s))) s' g in
+    let i = skipped (limited_form l) (limited_form m then
+    (λ m2. limited_form (form_difference l m) then (λ d2. three_factorials l m (form_difference l m) w s))) s' g in
     let j = skipped (limited_form m) (limited_form (form_difference l m) then (λ d2. three_factorials l m (form_difference l m) w s)) s' i in
     let o = skipped (limited_form (form_difference l m)) (three_factorials l m (form_difference l m) w s) s' j in
     let p = argument_found upper l a.first in
     let q = argument_found lower m b.first in
     times_same s s'
-    (λ n k. fraction_product (factorial_power w (form_value l n k)) (fraction_product (factorial_power (neg_ℤ w) (form_value m n k)) (factorial_power (neg_ℤ w) (form_value (form_difference l m) n k))))
+    (λ n k. fraction_product (factorial_power w (form_value l n k))
+    (fraction_product (factorial_power (neg_ℤ w) (form_value m n k)) (factorial_power (neg_ℤ w) (form_value (form_difference l m) n k))))
     (λ n k. fraction_product (at_whole (factorial_power w) (tree_value upper (pos 1) n k))
     (fraction_product (at_whole (factorial_power (neg_ℤ w)) (tree_value lower (pos 1) n k))
     (at_whole (factorial_power (neg_ℤ w)) (fraction_difference (tree_value upper (pos 1) n k) (tree_value lower (pos 1) n k)))))

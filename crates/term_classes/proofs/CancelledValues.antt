@@ -65,10 +65,11 @@ module _ (n k : ℤ) where
       let n_power : Fraction = whole_power s.n_base n in
       let p : Fraction = of_whole (poly_value s.poly n k) in
       let defined : IsDefined lists = right_defined k_power lists (right_defined n_power (fraction_product k_power lists)
-          (right_defined p (fraction_product n_power (fraction_product k_power lists))
-          (right_defined s.scale (fraction_product p (fraction_product n_power (fraction_product k_power lists))) d))) in
-      (up_natural s.up up (left_defined up_value (fraction_product down_value over_value) defined),
-      over_not_zero s.over over (right_defined down_value over_value (right_defined up_value (fraction_product down_value over_value) defined)))
+      (right_defined p (fraction_product n_power (fraction_product k_power lists))
+      (right_defined s.scale (fraction_product p (fraction_product n_power (fraction_product k_power lists))) d))) in (
+        up_natural s.up up (left_defined up_value (fraction_product down_value over_value) defined),
+        over_not_zero s.over over (right_defined down_value over_value (right_defined up_value (fraction_product down_value over_value) defined)),
+      )
 
   abbrev IsNatural : Factor → Type 0
   IsNatural x = pos 0 ≤ℤ form_value x.form n k
@@ -124,8 +125,10 @@ module _ (n k : ℤ) where
   lists_cancel (x ∷ xs) h =
       let u : Fraction = factorial_value (form_value x.form n k) in
       let d : Fraction = inverse_factorial_value (form_value x.form n k) in
-      same_chain (same (products_exchange (natural_power u x.power) (product_over factorial_value xs n k) (natural_power d x.power) (product_over inverse_factorial_value xs n k)))
-      (same_chain (same_products (same_chain (same (sym (power_of_product u d x.power))) (one_power (fraction_product u d) x.power (factorial_cancels (form_value x.form n k) h.0)))
+      same_chain (same (products_exchange (natural_power u x.power) (product_over factorial_value xs n k) (natural_power d x.power)
+      (product_over inverse_factorial_value xs n k)))
+      (same_chain (same_products (same_chain (same (sym (power_of_product u d x.power)))
+      (one_power (fraction_product u d) x.power (factorial_cancels (form_value x.form n k) h.0)))
       (lists_cancel xs h.1)) (same (one_product (of_whole (pos 1)))))
 
   regrouped : (u b d c o : Fraction) → fraction_product (fraction_product u b) (fraction_product (fraction_product d c) o)
@@ -136,8 +139,10 @@ module _ (n k : ℤ) where
       law u b d c o = ring_z (u ∷ b ∷ d ∷ c ∷ o ∷ []) (search reading_z depth 40 fits 20000) refl
 
 -- the shared forms of a list have powers no greater than in it
-pub at_most_own : (xs bs : List Factor) → NoFormTwice xs → ((f : LinearForm) → power_of f bs ≤ power_of f xs) → AllByRecursion (λ x. power_of x.form bs ≤ x.power) xs
-at_most_own xs bs h below = all_more (λ x. power_of x.form xs ≡ x.power) (λ x. power_of x.form bs ≤ x.power) (λ x e. subst (λ m. power_of x.form bs ≤ m) e (below x.form)) xs (own_powers xs h)
+pub at_most_own : (xs bs : List Factor) → NoFormTwice xs → ((f : LinearForm) → power_of f bs ≤ power_of f xs)
+    → AllByRecursion (λ x. power_of x.form bs ≤ x.power) xs
+at_most_own xs bs h below = all_more (λ x. power_of x.form xs ≡ x.power) (λ x. power_of x.form bs ≤ x.power)
+    (λ x e. subst (λ m. power_of x.form bs ≤ m) e (below x.form)) xs (own_powers xs h)
 
 -- what cancelling needs of a term
 pub record CanCancel (s : ProperTerm) : Type 0 where
@@ -168,14 +173,17 @@ module _ (s : ProperTerm) (h : CanCancel s) where
         }
 
     lists_same : IsDefinedAt (cancelled s) n k
-        → fraction_product (product_over factorial_value s.up n k) (fraction_product (product_over inverse_factorial_value s.down n k) (product_over (λ z. fraction_inverse (of_whole z)) s.over n k))
-        ≅ fraction_product (product_over factorial_value (without s.up shared) n k) (fraction_product (product_over inverse_factorial_value (without s.down shared) n k) (product_over (λ z. fraction_inverse (of_whole z)) s.over n k))
+        → fraction_product (product_over factorial_value s.up n k)
+        (fraction_product (product_over inverse_factorial_value s.down n k) (product_over (λ z. fraction_inverse (of_whole z)) s.over n k))
+        ≅ fraction_product (product_over factorial_value (without s.up shared) n k)
+        (fraction_product (product_over inverse_factorial_value (without s.down shared) n k)
+        (product_over (λ z. fraction_inverse (of_whole z)) s.over n k))
     lists_same d =
         let distinct : NoFormTwice shared = both_distinct s.up s.down h.up in
         let up_parts = product_parts factorial_value n k s.up shared h.up distinct (both_in_first s.up s.down h.up_some)
-            (at_most_own s.up shared h.up (λ f. both_below_first f s.up s.down h.up)) in
+        (at_most_own s.up shared h.up (λ f. both_below_first f s.up s.down h.up)) in
         let down_parts = product_parts inverse_factorial_value n k s.down shared h.down distinct (both_in_second s.up s.down)
-            (at_most_own s.down shared h.down (λ f. both_below_second f s.up s.down)) in
+        (at_most_own s.down shared h.down (λ f. both_below_second f s.up s.down)) in
         let over_value : Fraction = product_over (λ z. fraction_inverse (of_whole z)) s.over n k in
         let u : Fraction = product_over factorial_value (without s.up shared) n k in
         let v : Fraction = product_over inverse_factorial_value (without s.down shared) n k in

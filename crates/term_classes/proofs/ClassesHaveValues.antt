@@ -55,7 +55,11 @@ cancelled_value s v h lists =
       over_some = list_some s.over lists.over;
     }) in
     record {
-      defined = λ n k. (λ d. (same_defined (from_unit s v h n k)).0 ((c.defined n k).0 d), λ d. (c.defined n k).1 ((same_defined (from_unit s v h n k)).1 d));
+      defined = λ n k. (
+        λ d. (same_defined (from_unit s v h n k)).0 ((c.defined n k).0 d),
+        λ d. (c.defined n k).1
+            ((same_defined (from_unit s v h n k)).1 d),
+      );
       equal = λ n k d. equal_chain (c.equal n k d) (same_equal (from_unit s v h n k) ((c.defined n k).0 d));
     }
 
@@ -76,6 +80,7 @@ class_of_quotient_has_the_value a b f e =
     let p = walk_multiplies a (pos 1) unit_term g.value unit_fractions g.first in
     subst (λ f. HasValue f (quotient_value a b)) (same_Ok (cancelled h.value) f h.second)
     (cancelled_value h.value (quotient_value a b)
-    (times_both unit_term g.value h.value (tree_value a (pos 1)) (tree_value b (negsuc 0)) p (walk_multiplies b (negsuc 0) g.value h.value p.fractions h.first))
+    (times_both unit_term g.value h.value (tree_value a (pos 1)) (tree_value b (negsuc 0)) p
+    (walk_multiplies b (negsuc 0) g.value h.value p.fractions h.first))
     (walk_keeps HasLists lists_keep b (negsuc 0) g.value h.value minus_one_not_zero
     (walk_keeps HasLists lists_keep a (pos 1) unit_term g.value one_not_zero unit_lists g.first) h.first))

@@ -59,7 +59,8 @@ negative_product f = fraction_same (minus f.top) (once f.bottom)
     once : (a : ℤ) → pos 1 *ℤ a ≡ a
     once a = ring_z (a ∷ []) (search reading_z depth 40 fits 20000) refl
 
-pub negated_constant : (t : Tree) (g : Option Fraction) (f : Fraction) → negative_of g ≡ Some f → ((h : Fraction) → g ≡ Some h → IsConstant h (tree_value t))
+pub negated_constant : (t : Tree) (g : Option Fraction) (f : Fraction) → negative_of g ≡ Some f
+    → ((h : Fraction) → g ≡ Some h → IsConstant h (tree_value t))
     → IsConstant f (λ w n k. fraction_product (whole_power (of_whole (negsuc 0)) w) (tree_value t w n k))
 negated_constant t None f e h = absurd (none-some f e)
 negated_constant t (Some g) f e h = subst (λ f. IsConstant f (λ w n k. fraction_product (whole_power (of_whole (negsuc 0)) w) (tree_value t w n k)))
@@ -86,7 +87,8 @@ module _ (base : Tree) (f : Fraction) (h : IsConstant f (tree_value base)) where
       (λ e. same (sym (whole_power_of_one w) ∙ ap (λ c. whole_power (whole_power f c) w) (sym (abs_nought c (eqb-true (unsigned_abs c) 0 e)))))
       (λ e. same_chain (h.power (w *ℤ c) n k) (same_chain (same (ap (whole_power f) (*ℤ_comm w c))) (same_turned (twice w))))
 
-  lowered : (c : ℤ) (r : Fraction) (other : ℤ → ℤ → ℤ → Fraction) → IsDefined r → r ≅ whole_power f c → ((w : ℤ) → whole_power (whole_power f c) w ≅ whole_power f (c *ℤ w))
+  lowered : (c : ℤ) (r : Fraction) (other : ℤ → ℤ → ℤ → Fraction) → IsDefined r → r ≅ whole_power f c
+      → ((w : ℤ) → whole_power (whole_power f c) w ≅ whole_power f (c *ℤ w))
       → IsConstant (lowest_terms r) (λ w n k. power_value base (Some c) w n k (other w n k))
   lowered c r other d e twice = record {
     defined = λ z. d (lowest_bottom_zero r z);
@@ -99,11 +101,13 @@ module _ (base : Tree) (f : Fraction) (h : IsConstant f (tree_value base)) where
   power_made_has at (pos c) g other e =
       subst (λ g. IsConstant g (λ w n k. power_value base (Some (pos c)) w n k (other w n k))) (same_Some (lowest_terms (raised_fraction f (pos c))) g
       (same_Ok (Some (lowest_terms (raised_fraction f (pos c)))) (Some g) e))
-      (lowered (pos c) (raised_fraction f (pos c)) other (subst IsDefined (sym (raised_natural f c)) (natural_power_defined f c h.defined)) (same (raised_natural f c))
+      (lowered (pos c) (raised_fraction f (pos c)) other (subst IsDefined (sym (raised_natural f c)) (natural_power_defined f c h.defined))
+      (same (raised_natural f c))
       (λ w. same (natural_then_whole f c w)))
   power_made_has at (negsuc c) g other e =
-      let u = unless_given (is_zero f.top) (of_fraction (size_of_top (raised_fraction f (negsuc c))) (size_of_bottom (raised_fraction f (negsuc c)))) at
-          (lowest_terms (raised_fraction f (negsuc c))) g e in
+      let u = unless_given (is_zero f.top) (of_fraction (size_of_top (raised_fraction f (negsuc c)))
+      (size_of_bottom (raised_fraction f (negsuc c)))) at
+      (lowest_terms (raised_fraction f (negsuc c))) g e in
       let nonzero : IsNonzero f = record { top = not_zero f.top u.0; bottom = h.defined } in
       subst (λ g. IsConstant g (λ w n k. power_value base (Some (negsuc c)) w n k (other w n k))) u.1
       (lowered (negsuc c) (raised_fraction f (negsuc c)) other (raised_nonzero f (negsuc c) nonzero).bottom (raised_same f (negsuc c) nonzero)

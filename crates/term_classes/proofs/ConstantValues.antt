@@ -98,7 +98,8 @@ power_found : (at : ℕ) (base : Tree) (c : Option ℤ) (f : Fraction) (other : 
     → IsConstant f (λ w n k. power_value base c w n k (other w n k))
 power_found at base None f other e h = absurd (none-some f (same_Ok None (Some f) e))
 power_found at base (Some c) f other e h =
-    let g = then_gave (within_limit exponent_limit 12 (unsigned_abs c) c) (λ c1. constant_sought base then (λ f. where_some f (power_made at c))) (Some f) e in
+    let g = then_gave (within_limit exponent_limit 12 (unsigned_abs c) c) (λ c1. constant_sought base then (λ f. where_some f (power_made at c)))
+    (Some f) e in
     let b = then_gave (constant_sought base) (λ f. where_some f (power_made at c)) (Some f) g.second in
     some_power at base c b.value f other b.first b.second h
 
@@ -113,13 +114,14 @@ whole_given q (Some z) f e constant value h = subst (λ f. IsConstant f value) (
 -- by its polynomial, or else by its other cases
 constant_or : (at : ℕ) (node : Node) (p : Option Meaning) (f : Fraction) → node_polynomial node ≡ p
     → (elim p as (λ _. Steps (Option Fraction)) [
-    | Some q ↦ gives (whole_fraction (constant_in_k (items q)))
-    | None ↦ node_constant_sought at node
+      | Some q ↦ gives (whole_fraction (constant_in_k (items q)))
+      | None ↦ node_constant_sought at node
     ]).outcome ≡ Ok (Some f)
     → ((node_constant_sought at node).outcome ≡ Ok (Some f) → IsConstant f (node_value node)) → IsConstant f (node_value node)
 constant_or at node None f is e h = h e
 constant_or at node (Some q) f is e h =
-    whole_given q (constant_in_k (items q)) f (same_Ok (whole_fraction (constant_in_k (items q))) (Some f) e) refl (node_value node) (node_has node q is)
+    whole_given q (constant_in_k (items q)) f (same_Ok (whole_fraction (constant_in_k (items q))) (Some f) e) refl (node_value node)
+    (node_has node q is)
 
 mutual
   pub constant_has : (t : Tree) (f : Fraction) → (constant_sought t).outcome ≡ Ok (Some f) → IsConstant f (tree_value t)
@@ -146,7 +148,7 @@ mutual
       product_found at parts g.value f g.first g.second (constants_have parts)
   node_constant_has at (power_of base e) f h =
       let g = then_gave (polynomial_sought e) (λ p. where_some (constant_of p) (λ c. within_limit exponent_limit 12 (unsigned_abs c) c then (λ c1.
-          constant_sought base then (λ f. where_some f (power_made at c))))) (Some f) h in
+      constant_sought base then (λ f. where_some f (power_made at c))))) (Some f) h in
       let other : ℤ → ℤ → ℤ → Fraction = λ w n k. at_whole (λ z. whole_power (tree_value base (pos 1) n k) (w *ℤ z)) (tree_value e (pos 1) n k) in
       subst (λ c. IsConstant f (λ w n k. power_value base c w n k (other w n k))) (sym (ap constant_of (sought_is e g.value g.first)))
       (power_found at base (constant_of g.value) f other g.second (constant_has base))
@@ -155,9 +157,11 @@ mutual
 
   constants_have : (parts : Parts) (fs : List FractionFactor) → (constants_sought parts).outcome ≡ Ok (Some fs) → divides_by_zero fs ≡ false
       → IsConstant (product_of_fractions fs) (product_value parts)
-  constants_have no_parts fs e d = subst (λ fs. IsConstant (product_of_fractions fs) (product_value no_parts)) (same_Some [] fs (same_Ok (Some []) (Some fs) e))
+  constants_have no_parts fs e d = subst (λ fs. IsConstant (product_of_fractions fs) (product_value no_parts))
+      (same_Some [] fs (same_Ok (Some []) (Some fs) e))
       (record { defined = one_not_zero; power = λ w n k. same (sym (whole_power_of_one w)) })
   constants_have (part turned t parts) fs e d =
-      let g = then_gave (constant_sought t) (λ f. where_some f (λ f1. constants_sought parts then (λ fs. gives (in_front (turned, f1) fs)))) (Some fs) e in
+      let g = then_gave (constant_sought t) (λ f. where_some f (λ f1. constants_sought parts then (λ fs. gives (in_front (turned, f1) fs))))
+      (Some fs) e in
       one_factor_has turned t g.value parts fs g.second d (λ f q. constant_has t f (subst (λ v. (constant_sought t).outcome ≡ Ok v) q g.first))
       (constants_have parts)

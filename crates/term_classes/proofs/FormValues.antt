@@ -130,7 +130,8 @@ content_not_zero f some e = some (
 -- the whole number of a fraction that has the value of one
 whole_found : (f : Fraction) (z : ℤ) → f ≅ of_whole z → whole_number_of f ≡ Some z
 whole_found f z e =
-    cond_both (nat_eq (unsigned_abs f.bottom) 0) None (if nat_eq (unsigned_abs (int_rem f.top f.bottom)) 0 then Some (int_div f.top f.bottom) else None) (λ o. o ≡ Some z)
+    cond_both (nat_eq (unsigned_abs f.bottom) 0) None
+    (if nat_eq (unsigned_abs (int_rem f.top f.bottom)) 0 then Some (int_div f.top f.bottom) else None) (λ o. o ≡ Some z)
     (λ h. absurd (defined (abs_nought f.bottom (eqb-true (unsigned_abs f.bottom) 0 h))))
     (λ h. cond_both (nat_eq (unsigned_abs (int_rem f.top f.bottom)) 0) (Some (int_div f.top f.bottom)) None (λ o. o ≡ Some z)
     (λ g. ap Some quotient) (λ g. absurd (true≢false (sym (eq-eqb (unsigned_abs (int_rem f.top f.bottom)) 0 rest) ∙ g))))

@@ -19,7 +19,8 @@ use Rattle.term_classes.proofs.WalkKeeps.{RowsKeep, IsFew}
 pub total_with : (l : LinearForm) (w : ℕ) (xs : List Factor) → total_power (lists.with_factor l w xs) ≡ total_power xs + w
 total_with l w [] = omega arith
 total_with l w (x ∷ xs) =
-    cond_both (lists.same_form l x.form) (lists.factor_with x.form (x.power + w) ∷ xs) (x ∷ lists.with_factor l w xs) (λ ys. total_power ys ≡ total_power (x ∷ xs) + w)
+    cond_both (lists.same_form l x.form) (lists.factor_with x.form (x.power + w) ∷ xs) (x ∷ lists.with_factor l w xs)
+    (λ ys. total_power ys ≡ total_power (x ∷ xs) + w)
     (λ e. omega arith) (λ e. omega (arith, total_with l w xs))
 
 pub power_in_total : (l : LinearForm) (xs : List Factor) → lists.power_of l xs ≤ total_power xs
@@ -55,7 +56,8 @@ pub record IsGatheredList (xs : List Factor) : Type 0 where
 pub list_some : (xs : List Factor) → IsGatheredList xs → AllSome xs
 list_some xs h = all_more IsFactor (λ x. 1 ≤ x.power) (λ x f. f.some) xs h.factors.each
 
-gathered_with : (l : LinearForm) (w : ℕ) (xs : List Factor) → IsGatheredList xs → IsWithinLimits l → 1 ≤ w → total_power (lists.with_factor l w xs) ≤ 24
+gathered_with : (l : LinearForm) (w : ℕ) (xs : List Factor) → IsGatheredList xs → IsWithinLimits l → 1 ≤ w
+    → total_power (lists.with_factor l w xs) ≤ 24
     → IsGatheredList (lists.with_factor l w xs)
 gathered_with l w xs h limits some few = record {
   factors = factors_stay l w xs (form_within l limits) some small h.factors;
@@ -78,8 +80,26 @@ lists_keep = record {
   n_base = λ s g w h n. record { up = h.up; down = h.down; over = h.over; few = h.few };
   k_base = λ s g w h n. record { up = h.up; down = h.down; over = h.over; few = h.few };
   poly = λ s q w h v. record { up = h.up; down = h.down; over = h.over; few = h.few };
-  up = λ s l w h limits some few. record { up = gathered_with l w s.up h.up limits some (omega (arith, few)); down = h.down; over = h.over; few = few };
-  down = λ s l w h limits some few. record { up = h.up; down = gathered_with l w s.down h.down limits some (omega (arith, few)); over = h.over; few = few };
+  up = λ s l w h limits some few. record {
+    up = gathered_with l w s.up h.up limits some (omega (arith, few));
+    down = h.down;
+    over = h.over;
+    few =
+        few;
+  };
+  down = λ s l w h limits some few. record {
+    up = h.up;
+    down = gathered_with l w s.down h.down limits some (omega (arith, few));
+    over =
+        h.over;
+    few = few;
+  };
   over = λ s q l w h v form limits some few.
-      record { up = h.up; down = h.down; over = gathered_with (primitive_form l) w s.over h.over (primitive_within l limits) some (omega (arith, few)); few = few };
+      record {
+        up = h.up;
+        down = h.down;
+        over = gathered_with (primitive_form l) w s.over h.over (primitive_within l limits) some
+            (omega (arith, few));
+        few = few;
+      };
 }

@@ -91,7 +91,8 @@ some_gcd a b some = subst (IsGcd a b) (same_divisor (euclid b a b (omega arith))
     same_divisor h =
         let positive : 0 < h.gcd = positive_divisor h.gcd a b some h.is.0 h.is.1 in
         let common = common_divisor a b some in
-        let up : h.gcd ≤ greatest_common_divisor a b = none_greater (a + b) a b h.gcd (below_sum h.gcd a b some h.is.0 h.is.1) positive h.is.0 h.is.1 in
+        let up : h.gcd ≤ greatest_common_divisor a b = none_greater (a + b) a b h.gcd (below_sum h.gcd a b some h.is.0 h.is.1)
+        positive h.is.0 h.is.1 in
         let down : greatest_common_divisor a b ≤ h.gcd = le_of_dvd positive (h.is.2 (greatest_common_divisor a b) common.left common.right) in
         omega (arith, up, down)
 

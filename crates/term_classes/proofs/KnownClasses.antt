@@ -36,7 +36,8 @@ form_k = with_numbers (pos 0) (pos 1) (pos 0)
 known_divisors : (greatest_common_divisor 12 18 ≡ 6) × (greatest_common_divisor 0 7 ≡ 7) × (greatest_common_divisor 0 0 ≡ 0)
 known_divisors = (refl, refl, refl)
 
-known_lowest : (lowest_terms (fraction (pos 6) (negsuc 3)) ≡ fraction (negsuc 2) (pos 2)) × (lowest_terms (fraction (pos 0) (negsuc 4)) ≡ of_whole (pos 0))
+known_lowest : (lowest_terms (fraction (pos 6) (negsuc 3)) ≡ fraction (negsuc 2) (pos 2)) ×
+    (lowest_terms (fraction (pos 0) (negsuc 4)) ≡ of_whole (pos 0))
 known_lowest = (refl, refl)
 
 -- 2*k, -6*n+4*k and 4-2*n
@@ -79,12 +80,14 @@ three second third l m r = product_of (part false l (part second m (part third r
 -- (k^13*2/3+1) and (2/3*k^13+1): the parts are sought in the order of the text
 order_of_parts : (class (tree 9 (sum_of (both (tree 5 (three false true (k_to_13 1 2 3) (number_at 6 2) (number_at 8 3))) false (number_at 10 1))))
     ≡ Err (limit exponent_limit 13))
-    × (class (tree 9 (sum_of (both (tree 2 (three true false (number_at 1 2) (number_at 3 3) (k_to_13 5 6 7))) false (number_at 10 1)))) ≡ Err (improper 6 9))
+    × (class (tree 9 (sum_of (both (tree 2 (three true false (number_at 1 2) (number_at 3 3) (k_to_13 5 6 7))) false (number_at 10 1))))
+    ≡ Err (improper 6 9))
 order_of_parts = (refl, refl)
 
 -- n^(k^13), (3/0*k^13)^k and (10^30)!: an exponent is sought before all else, and all parts of a product before the test of 0
 limits_first : (class (tree 1 (power_of (n_at 0) (k_to_13 3 4 5))) ≡ Err (limit exponent_limit 13))
-    × (class (tree 11 (power_of (tree 2 (three true false (number_at 1 3) (number_at 3 0) (k_to_13 5 6 7))) (k_at 12))) ≡ Err (limit exponent_limit 13))
+    × (class (tree 11 (power_of (tree 2 (three true false (number_at 1 3) (number_at 3 0) (k_to_13 5 6 7))) (k_at 12)))
+    ≡ Err (limit exponent_limit 13))
     × (class (tree 7 (factorial_of (tree 3 (power_of (number_at 1 10) (number_at 4 30))))) ≡ Err (limit exponent_limit 30))
 limits_first = (refl, refl, refl)
 
@@ -92,7 +95,8 @@ abbrev factorial_to_12 : ℕ → Tree → Tree
 factorial_to_12 at t = tree at (power_of (tree at (factorial_of t)) (number_at at 12))
 
 -- k!^12*n!^12/(k+1)
-many_factors : class (tree 5 (three false true (factorial_to_12 1 (k_at 0)) (factorial_to_12 7 (n_at 6)) (tree 14 (sum_of (both (k_at 13) false (number_at 15 1))))))
+many_factors : class (tree 5 (three false true (factorial_to_12 1 (k_at 0)) (factorial_to_12 7 (n_at 6))
+    (tree 14 (sum_of (both (k_at 13) false (number_at 15 1))))))
     ≡ Err (limit factors_limit 25)
 many_factors = refl
 
@@ -123,7 +127,8 @@ other_exponents = (refl, refl)
 reasons : (class (tree 5 (factorial_of (tree 2 (product_of (both (n_at 1) false (k_at 3)))))) ≡ Err (improper 1 2))
     × (class (tree 5 (factorial_of (tree 2 (sum_of (both (number_at 1 2) true (number_at 3 3)))))) ≡ Err (improper 2 2))
     × (class (tree 1 (product_of (both (number_at 0 1) true (number_at 2 0)))) ≡ Err (improper 3 2))
-    × (class (tree 1 (product_of (both (number_at 0 1) true (tree 4 (sum_of (both (n_at 3) false (tree 6 (product_of (both (n_at 5) false (k_at 7))))))))))
+    × (class (tree 1 (product_of (both (number_at 0 1) true
+    (tree 4 (sum_of (both (n_at 3) false (tree 6 (product_of (both (n_at 5) false (k_at 7))))))))))
     ≡ Err (improper 3 4))
     × (class (tree 2 (sum_of (both (tree 1 (factorial_of (k_at 0))) false (number_at 3 1)))) ≡ Err (improper 6 2))
     × (class (tree 1 (product_of (both (number_at 0 0) false (k_at 2)))) ≡ Err (improper 7 0))

@@ -16,10 +16,10 @@ polynomials_keep = record {
   n_base = λ s g w h n. record { belongs = h.belongs; not_zero = h.not_zero };
   k_base = λ s g w h n. record { belongs = h.belongs; not_zero = h.not_zero };
   poly = λ s q w h v. record {
-      belongs = product_belongs s.poly (poly_power q w) h.belongs (power_belongs q w v.belongs);
-      not_zero = product_not_nought s.poly (poly_power q w) h.belongs (power_belongs q w v.belongs) h.not_zero
-          (power_not_nought q w v.belongs (varying_not_nought q v));
-    };
+    belongs = product_belongs s.poly (poly_power q w) h.belongs (power_belongs q w v.belongs);
+    not_zero = product_not_nought s.poly (poly_power q w) h.belongs (power_belongs q w v.belongs) h.not_zero
+        (power_not_nought q w v.belongs (varying_not_nought q v));
+  };
   up = λ s l w h limits some few. record { belongs = h.belongs; not_zero = h.not_zero };
   down = λ s l w h limits some few. record { belongs = h.belongs; not_zero = h.not_zero };
   over = λ s q l w h v form limits some few. record { belongs = h.belongs; not_zero = h.not_zero };

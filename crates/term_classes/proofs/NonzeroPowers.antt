@@ -99,7 +99,8 @@ inverse_then_itself f g p =
 pub itself_then_inverse : (f g : Fraction) → IsNonzero f → fraction_product f (fraction_product (fraction_inverse f) g) ≅ g
 itself_then_inverse f g p =
     same_chain (same (sym (product_assoc f (fraction_inverse f) g)))
-    (same_chain (same_products (same_chain (same (product_comm f (fraction_inverse f))) (inverse_cancels f p)) (same_itself g)) (same (one_product g)))
+    (same_chain (same_products (same_chain (same (product_comm f (fraction_inverse f))) (inverse_cancels f p)) (same_itself g))
+    (same (one_product g)))
 
 pub product_moved : (g x y : Fraction) → fraction_product g (fraction_product x y) ≡ fraction_product x (fraction_product g y)
 product_moved g x y = sym (product_assoc g x y) ∙ ap (λ t. fraction_product t y) (product_comm g x) ∙ product_assoc x g y

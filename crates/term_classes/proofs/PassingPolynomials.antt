@@ -45,7 +45,8 @@ pub power_not_nought : (p : Meaning) (e : ℕ) → Belongs p → p ≢ in_n_and_
 power_not_nought p zero h n = unit_not_nought
 power_not_nought p (suc e) h n = product_not_nought p (poly_power p e) h (power_belongs p e h) n (power_not_nought p e h n)
 
-signed_belongs : (turned : Bool) (a : Option Meaning) (x : Meaning) → signed_poly turned a ≡ Some x → ((y : Meaning) → a ≡ Some y → Belongs y) → Belongs x
+signed_belongs : (turned : Bool) (a : Option Meaning) (x : Meaning) → signed_poly turned a ≡ Some x → ((y : Meaning) → a ≡ Some y → Belongs y)
+    → Belongs x
 signed_belongs turned None x e h = absurd (none-some x e)
 signed_belongs false (Some y) x e h = subst Belongs (same_Some y x e) (h y refl)
 signed_belongs true (Some y) x e h = subst Belongs (same_Some (in_n_and_k.neg y) x e) (closed.neg (y, h y refl))

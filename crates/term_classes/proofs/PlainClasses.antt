@@ -47,13 +47,14 @@ both_power f (x ∷ xs) ys h = ⊎_elim here (there (both_power f xs ys h.1)) (s
     here : f ≡ x.form → power_of f (in_both (x ∷ xs) ys) ≡ min (power_of f (x ∷ xs)) (power_of f ys)
     here e =
         let absent : power_of f (in_both xs ys) ≡ 0 =
-            ap (λ g. power_of g (in_both xs ys)) e ∙ absent_power x.form (in_both xs ys) (both_forms (λ f. f ≢ x.form) xs ys h.0) in
+        ap (λ g. power_of g (in_both xs ys)) e ∙ absent_power x.form (in_both xs ys) (both_forms (λ f. f ≢ x.form) xs ys h.0) in
         let own : power_of f (x ∷ xs) ≡ x.power = power_here f x xs e in
         let second : power_of f ys ≡ power_of x.form ys = ap (λ g. power_of g ys) e in
         both_by (λ zs. power_of f zs ≡ min (power_of f (x ∷ xs)) (power_of f ys)) x xs ys (λ none. omega (arith, none, absent, own, second))
         (λ some. omega (arith, power_here f (factor_with x.form (min x.power (power_of x.form ys))) (in_both xs ys) e, own, second))
 
-    there : power_of f (in_both xs ys) ≡ min (power_of f xs) (power_of f ys) → f ≢ x.form → power_of f (in_both (x ∷ xs) ys) ≡ min (power_of f (x ∷ xs)) (power_of f ys)
+    there : power_of f (in_both xs ys) ≡ min (power_of f xs) (power_of f ys) → f ≢ x.form → power_of f (in_both (x ∷ xs) ys)
+        ≡ min (power_of f (x ∷ xs)) (power_of f ys)
     there e n =
         let later : power_of f (x ∷ xs) ≡ power_of f xs = power_later f x xs n in
         both_by (λ zs. power_of f zs ≡ min (power_of f (x ∷ xs)) (power_of f ys)) x xs ys (λ none. omega (arith, e, later))
@@ -89,7 +90,8 @@ module _ (s : ProperTerm) (h : IsGathered s) where
 
   -- no form is left in both lists
   none_shared : AllByRecursion (λ x. AllByRecursion (λ y. y.form ≢ x.form) (without s.down shared)) (without s.up shared)
-  none_shared = each_pair (λ x. 1 ≤ power_of x.form s.up - power_of x.form shared) (λ y. 1 ≤ power_of y.form s.down - power_of y.form shared) (λ x y. y.form ≢ x.form)
+  none_shared = each_pair (λ x. 1 ≤ power_of x.form s.up - power_of x.form shared) (λ y. 1 ≤ power_of y.form s.down - power_of y.form shared)
+      (λ x y. y.form ≢ x.form)
       (λ x y p q e. both x.form p (subst (λ f. 1 ≤ power_of f s.down - power_of f shared) e q)) (without s.up shared) (without s.down shared)
       (left_powers s.up s.up shared (own_powers s.up up_distinct)) (left_powers s.down s.down shared (own_powers s.down down_distinct))
     where
@@ -100,9 +102,9 @@ module _ (s : ProperTerm) (h : IsGathered s) where
   few_left =
       let distinct : NoFormTwice shared = both_distinct s.up s.down up_distinct in
       let up = total_parts s.up shared up_distinct distinct (both_in_first s.up s.down (list_some s.up h.lists.up))
-          (at_most_own s.up shared up_distinct (λ f. both_below_first f s.up s.down up_distinct)) in
+      (at_most_own s.up shared up_distinct (λ f. both_below_first f s.up s.down up_distinct)) in
       let down = total_parts s.down shared down_distinct distinct (both_in_second s.up s.down)
-          (at_most_own s.down shared down_distinct (λ f. both_below_second f s.up s.down)) in
+      (at_most_own s.down shared down_distinct (λ f. both_below_second f s.up s.down)) in
       omega (arith, up, down, h.lists.few)
 
   cancelled_proper : IsTermInBounds s → IsProper (cancelled s)

@@ -57,7 +57,8 @@ negative_value : (y : Meaning) (n k : ℤ) → fraction_negative (of_whole (poly
 negative_value y n k = ap of_whole (sym ((keeps n k).neg y))
 
 -- a summand with its sign
-signed_has : (turned : Bool) (a : Option Meaning) (t : Tree) (x : Meaning) → signed_poly turned a ≡ Some x → ((y : Meaning) → a ≡ Some y → IsPower y t)
+signed_has : (turned : Bool) (a : Option Meaning) (t : Tree) (x : Meaning) → signed_poly turned a ≡ Some x
+    → ((y : Meaning) → a ≡ Some y → IsPower y t)
     → (n k : ℤ) → signed_value turned (tree_value t (pos 1) n k) ≅ of_whole (poly_value x n k)
 signed_has turned None t x e h n k = absurd (none-some x e)
 signed_has false (Some y) t x e h n k =
@@ -89,7 +90,8 @@ power_value base c w n k other = elim c as (λ _. Fraction) [
 ]
 
 natural_exponent : (base : Tree) (y : Meaning) (c : ℕ) → IsPower y base
-    → (w n k : ℤ) → (if nat_eq c 0 then of_whole (pos 1) else tree_value base (w *ℤ pos c) n k) ≅ whole_power (of_whole (poly_value (poly_power y c) n k)) w
+    → (w n k : ℤ) → (if nat_eq c 0 then of_whole (pos 1) else tree_value base (w *ℤ pos c) n k)
+    ≅ whole_power (of_whole (poly_value (poly_power y c) n k)) w
 natural_exponent base y c h w n k =
     cond_both (nat_eq c 0) (of_whole (pos 1)) (tree_value base (w *ℤ pos c) n k) (λ v. v ≅ whole_power (of_whole (poly_value (poly_power y c) n k)) w)
     (λ e. same (sym (whole_power_of_one w) ∙ ap (λ z. whole_power (of_whole z) w) (sym (keeps n k).unit)
@@ -119,9 +121,11 @@ mutual
       same (ap (λ z. whole_power (of_whole z) w) (sym ((keeps n k).whole (pos c)))
       ∙ ap (λ q. whole_power (of_whole (poly_value q n k)) w) (same_Some (in_n_and_k.whole (pos c)) p e))
   node_has variable_n p e w n k =
-      same (ap (λ z. whole_power (of_whole z) w) (sym (variable_n_value n k)) ∙ ap (λ q. whole_power (of_whole (poly_value q n k)) w) (same_Some poly_n p e))
+      same (ap (λ z. whole_power (of_whole z) w) (sym (variable_n_value n k))
+      ∙ ap (λ q. whole_power (of_whole (poly_value q n k)) w) (same_Some poly_n p e))
   node_has variable_k p e w n k =
-      same (ap (λ z. whole_power (of_whole z) w) (sym (variable_k_value n k)) ∙ ap (λ q. whole_power (of_whole (poly_value q n k)) w) (same_Some poly_k p e))
+      same (ap (λ z. whole_power (of_whole z) w) (sym (variable_k_value n k))
+      ∙ ap (λ q. whole_power (of_whole (poly_value q n k)) w) (same_Some poly_k p e))
   node_has (sum_of no_parts) p e w n k = same_whole_powers w (sum_has no_parts p e n k)
   node_has (sum_of (part false t parts)) p e w n k = same_whole_powers w (sum_has (part false t parts) p e n k)
   node_has (sum_of (part true t no_parts)) p e w n k = turned_has (tree_polynomial t) t p e (tree_has t) w n k
@@ -136,19 +140,24 @@ mutual
   pub sum_has : (parts : Parts) (p : Meaning) → sum_polynomial parts ≡ Some p → (n k : ℤ) → sum_value parts n k ≅ of_whole (poly_value p n k)
   sum_has no_parts p e n k = same (ap (λ q. of_whole (poly_value q n k)) (same_Some in_n_and_k.nought p e))
   sum_has (part turned t parts) p e n k =
-      from_combined (λ x. signed_value turned (tree_value t (pos 1) n k) ≅ of_whole (poly_value x n k)) (λ y. sum_value parts n k ≅ of_whole (poly_value y n k))
-      (λ p. sum_value (part turned t parts) n k ≅ of_whole (poly_value p n k)) in_n_and_k.sum (signed_poly turned (tree_polynomial t)) (sum_polynomial parts) p e
+      from_combined (λ x. signed_value turned (tree_value t (pos 1) n k) ≅ of_whole (poly_value x n k))
+      (λ y. sum_value parts n k ≅ of_whole (poly_value y n k))
+      (λ p. sum_value (part turned t parts) n k ≅ of_whole (poly_value p n k)) in_n_and_k.sum (signed_poly turned (tree_polynomial t))
+      (sum_polynomial parts) p e
       (λ x f. signed_has turned (tree_polynomial t) t x f (tree_has t) n k) (λ y f. sum_has parts y f n k)
       (λ x y f g. same_chain (same_sums f g) (same (whole_sum n k (poly_value x n k) (poly_value y n k) ∙ ap of_whole (sym ((keeps n k).sum x y)))))
 
-  pub product_has : (parts : Parts) (p : Meaning) → product_polynomial parts ≡ Some p → (w n k : ℤ) → product_value parts w n k ≅ whole_power (of_whole (poly_value p n k)) w
+  pub product_has : (parts : Parts) (p : Meaning) → product_polynomial parts ≡ Some p → (w n k : ℤ) → product_value parts w n k
+      ≅ whole_power (of_whole (poly_value p n k)) w
   product_has no_parts p e w n k =
       same (sym (whole_power_of_one w) ∙ ap (λ z. whole_power (of_whole z) w) (sym (keeps n k).unit)
       ∙ ap (λ q. whole_power (of_whole (poly_value q n k)) w) (same_Some in_n_and_k.unit p e))
   product_has (part true t parts) p e w n k = absurd (none-some p e)
   product_has (part false t parts) p e w n k =
-      from_combined (λ x. tree_value t w n k ≅ whole_power (of_whole (poly_value x n k)) w) (λ y. product_value parts w n k ≅ whole_power (of_whole (poly_value y n k)) w)
-      (λ p. product_value (part false t parts) w n k ≅ whole_power (of_whole (poly_value p n k)) w) in_n_and_k.product (tree_polynomial t) (product_polynomial parts) p e
+      from_combined (λ x. tree_value t w n k ≅ whole_power (of_whole (poly_value x n k)) w)
+      (λ y. product_value parts w n k ≅ whole_power (of_whole (poly_value y n k)) w)
+      (λ p. product_value (part false t parts) w n k ≅ whole_power (of_whole (poly_value p n k)) w) in_n_and_k.product (tree_polynomial t)
+      (product_polynomial parts) p e
       (λ x f. tree_has t x f w n k) (λ y f. product_has parts y f w n k)
       (λ x y f g. same_chain (same_products f g) (same (sym (whole_power_of_product (of_whole (poly_value x n k)) (of_whole (poly_value y n k)) w)
       ∙ ap (λ z. whole_power (of_whole z) w) (sym ((keeps n k).product x y)))))

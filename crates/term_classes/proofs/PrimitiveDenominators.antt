@@ -47,23 +47,28 @@ IsSigned f = ((is_negative_first f ≡ true) × (¬ IsPositiveFirst f)) ⊎ ((is
 by_k : (f : LinearForm) → ¬ (f.k_slope ≡ pos 0) → IsSigned f
 by_k f n =
     let first : is_negative_first f ≡ int_lt f.k_slope (pos 0) =
-        ap (λ b. cond b (cond (is_zero f.n_slope) (int_lt f.offset (pos 0)) (int_lt f.n_slope (pos 0))) (int_lt f.k_slope (pos 0))) (is_not_zero f.k_slope n) in
+    ap (λ b. cond b (cond (is_zero f.n_slope) (int_lt f.offset (pos 0)) (int_lt f.n_slope (pos 0))) (int_lt f.k_slope (pos 0)))
+    (is_not_zero f.k_slope n) in
     ⊎_elim (λ s. inl (first ∙ s.0, λ p. ⊎_elim (λ q. omega (arith, ints, q, s.1)) (λ q. ⊎_elim (λ r. n r.0) (λ r. n r.0) q) p))
     (λ s. inr (first ∙ s.0, inl s.1)) (sign_found f.k_slope n)
 
 by_n : (f : LinearForm) → f.k_slope ≡ pos 0 → ¬ (f.n_slope ≡ pos 0) → IsSigned f
 by_n f z n =
     let first : is_negative_first f ≡ int_lt f.n_slope (pos 0) =
-        ap (λ k. cond (is_zero k) (cond (is_zero f.n_slope) (int_lt f.offset (pos 0)) (int_lt f.n_slope (pos 0))) (int_lt k (pos 0))) z
-        ∙ ap (λ b. cond b (int_lt f.offset (pos 0)) (int_lt f.n_slope (pos 0))) (is_not_zero f.n_slope n) in
+    ap (λ k. cond (is_zero k) (cond (is_zero f.n_slope) (int_lt f.offset (pos 0)) (int_lt f.n_slope (pos 0))) (int_lt k (pos 0))) z
+    ∙ ap (λ b. cond b (int_lt f.offset (pos 0)) (int_lt f.n_slope (pos 0))) (is_not_zero f.n_slope n) in
     ⊎_elim (λ s. inl (first ∙ s.0, λ p. ⊎_elim (λ q. omega (arith, ints, q, z)) (λ q. ⊎_elim (λ r. omega (arith, ints, r.1, s.1)) (λ r. n r.1) q) p))
     (λ s. inr (first ∙ s.0, inr (inl (z, s.1)))) (sign_found f.n_slope n)
 
 by_offset : (f : LinearForm) → f.k_slope ≡ pos 0 → f.n_slope ≡ pos 0 → ¬ (f.offset ≡ pos 0) → IsSigned f
 by_offset f z y n =
     let first : is_negative_first f ≡ int_lt f.offset (pos 0) =
-        λ i. cond (is_zero (z i)) (cond (is_zero (y i)) (int_lt f.offset (pos 0)) (int_lt (y i) (pos 0))) (int_lt (z i) (pos 0)) in
-    ⊎_elim (λ s. inl (first ∙ s.0, λ p. ⊎_elim (λ q. omega (arith, ints, q, z)) (λ q. ⊎_elim (λ r. omega (arith, ints, r.1, y)) (λ r. omega (arith, ints, r.2, s.1)) q) p))
+    λ i. cond (is_zero (z i)) (cond (is_zero (y i)) (int_lt f.offset (pos 0)) (int_lt (y i) (pos 0))) (int_lt (z i) (pos 0)) in
+    ⊎_elim (λ s. inl (
+      first ∙ s.0,
+      λ p. ⊎_elim (λ q. omega (arith, ints, q, z))
+          (λ q. ⊎_elim (λ r. omega (arith, ints, r.1, y)) (λ r. omega (arith, ints, r.2, s.1)) q) p,
+    ))
     (λ s. inr (first ∙ s.0, inr (inr (z, y, s.1)))) (sign_found f.offset n)
 
 signed : (f : LinearForm) → IsNotZero f → IsSigned f
@@ -116,7 +121,7 @@ denominators_keep = record {
   up = λ s l w h limits some few. record { over = h.over };
   down = λ s l w h limits some few. record { over = h.over };
   over = λ s q l w h v form limits some few. record {
-      over = all_with (λ f. IsPrimitive f × IsNotConstant f) (primitive_form l) w s.over
-          (primitive_is l (varying_not_zero q l v form), primitive_not_constant l (varying_not_constant q l v form)) h.over;
-    };
+    over = all_with (λ f. IsPrimitive f × IsNotConstant f) (primitive_form l) w s.over
+        (primitive_is l (varying_not_zero q l v form), primitive_not_constant l (varying_not_constant q l v form)) h.over;
+  };
 }

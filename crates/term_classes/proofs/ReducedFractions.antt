@@ -34,7 +34,8 @@ reduced_nonzero f h = record { top = h.not_zero; bottom = λ z. omega (arith, in
 turned_positive : (b : ℤ) → b ≢ pos 0 → pos 0 <ℤ turned_where (int_lt b (pos 0)) b
 turned_positive (pos zero) n = absurd (n refl)
 turned_positive (pos (suc m)) n =
-    cond_both (ltb (suc m) 0) (neg_ℤ (pos (suc m))) (pos (suc m)) (λ (z : ℤ). pos 0 <ℤ z) (λ e. absurd (omega (arith, ltb-true (suc m) 0 e))) (λ e. omega (arith, ints))
+    cond_both (ltb (suc m) 0) (neg_ℤ (pos (suc m))) (pos (suc m)) (λ (z : ℤ). pos 0 <ℤ z) (λ e. absurd (omega (arith, ltb-true (suc m) 0 e)))
+    (λ e. omega (arith, ints))
 turned_positive (negsuc m) n = omega (arith, ints)
 
 some_size : (z : ℤ) (m : ℕ) → z ≢ pos 0 → 0 < unsigned_abs z + m
@@ -57,9 +58,11 @@ module _ (f : Fraction) (h : IsNonzero f) where
   no_common d p q =
       let g : ℕ = divisor_of f in
       let top : d * g ∣ unsigned_abs f.top = subst (λ m. d * g ∣ m)
-          (times_size (lowest_terms f).top (turned_where (is_turned f) f.top) f.top (top_times f) (turned_size (is_turned f) f.top)) (mul-dvd-mul_right d p g) in
+      (times_size (lowest_terms f).top (turned_where (is_turned f) f.top) f.top (top_times f) (turned_size (is_turned f) f.top))
+      (mul-dvd-mul_right d p g) in
       let bottom : d * g ∣ unsigned_abs f.bottom = subst (λ m. d * g ∣ m)
-          (times_size (lowest_terms f).bottom (turned_where (is_turned f) f.bottom) f.bottom (bottom_times f) (turned_size (is_turned f) f.bottom)) (mul-dvd-mul_right d q g) in
+      (times_size (lowest_terms f).bottom (turned_where (is_turned f) f.bottom) f.bottom (bottom_times f) (turned_size (is_turned f) f.bottom))
+      (mul-dvd-mul_right d q g) in
       let all : d * g ∣ g = divisor_is.2 (d * g) top bottom in
       let left : d * g ≡ g * d = omega arith in
       let right : g ≡ g * 1 = omega arith in
@@ -69,7 +72,8 @@ module _ (f : Fraction) (h : IsNonzero f) where
   lowest_reduced = record {
     not_zero = (lowest_nonzero f h).top;
     positive = same_sign (pos (divisor_of f)) (lowest_terms f).bottom (omega (arith, ints, divisor_positive))
-        (subst (λ (z : ℤ). pos 0 <ℤ z) (sym (*ℤ_comm (pos (divisor_of f)) (lowest_terms f).bottom ∙ bottom_times f)) (turned_positive f.bottom h.bottom));
+        (subst (λ (z : ℤ). pos 0 <ℤ z) (sym (*ℤ_comm (pos (divisor_of f)) (lowest_terms f).bottom ∙ bottom_times f))
+        (turned_positive f.bottom h.bottom));
     coprime = no_common;
   }
 

@@ -93,8 +93,8 @@ pub both_in_first : (xs ys : List Factor) → AllSome xs → AllByRecursion (λ 
 both_in_first [] ys h = tt
 both_in_first (x ∷ xs) ys h =
     let later : AllByRecursion (λ b. 1 ≤ power_of b.form (x ∷ xs)) (in_both xs ys) =
-        all_more (λ b. 1 ≤ power_of b.form xs) (λ b. 1 ≤ power_of b.form (x ∷ xs))
-        (λ b p. power_by (λ m. 1 ≤ m) b.form x xs (λ e. h.0) (λ n. p)) (in_both xs ys) (both_in_first xs ys h.1) in
+    all_more (λ b. 1 ≤ power_of b.form xs) (λ b. 1 ≤ power_of b.form (x ∷ xs))
+    (λ b p. power_by (λ m. 1 ≤ m) b.form x xs (λ e. h.0) (λ n. p)) (in_both xs ys) (both_in_first xs ys h.1) in
     both_by (AllByRecursion (λ b. 1 ≤ power_of b.form (x ∷ xs))) x xs ys (λ e. later)
     (λ e. (subst (λ m. 1 ≤ m) (sym (power_here x.form x xs refl)) h.0, later))
 
@@ -118,7 +118,8 @@ both_below_first f (x ∷ xs) ys h = power_by (λ m. power_of f (in_both (x ∷ 
     here e = both_by (λ zs. power_of f zs ≤ x.power) x xs ys
         (λ none. subst (λ g. power_of g (in_both xs ys) ≤ x.power) (sym e)
         (omega (arith, absent_power x.form (in_both xs ys) (both_forms (λ f. f ≢ x.form) xs ys h.0))))
-        (λ some. subst (λ m. m ≤ x.power) (sym (power_here f (factor_with x.form (min x.power (power_of x.form ys))) (in_both xs ys) e)) (omega arith))
+        (λ some. subst (λ m. m ≤ x.power) (sym (power_here f (factor_with x.form (min x.power (power_of x.form ys))) (in_both xs ys) e))
+        (omega arith))
 
     later : power_of f (in_both xs ys) ≤ power_of f xs → f ≢ x.form → power_of f (in_both (x ∷ xs) ys) ≤ power_of f xs
     later below n = both_by (λ zs. power_of f zs ≤ power_of f xs) x xs ys (λ none. below)
@@ -135,7 +136,8 @@ without_by P x xs ys none some =
     at_least_one zero e = absurd (true≢false e)
     at_least_one (suc m) e = omega arith
 
-pub without_forms : (P : LinearForm → Type 0) (xs ys : List Factor) → AllByRecursion (λ x. P x.form) xs → AllByRecursion (λ x. P x.form) (without xs ys)
+pub without_forms : (P : LinearForm → Type 0) (xs ys : List Factor) → AllByRecursion (λ x. P x.form) xs
+    → AllByRecursion (λ x. P x.form) (without xs ys)
 without_forms P [] ys h = tt
 without_forms P (x ∷ xs) ys h =
     without_by (AllByRecursion (λ x. P x.form)) x xs ys (λ e. without_forms P xs ys h.1) (λ e. (h.0, without_forms P xs ys h.1))

@@ -29,7 +29,8 @@ module _ (f : ℤ → Fraction) (n k : ℤ) where
   split (x ∷ xs) ys h = without_by
       (λ zs. product_over f (x ∷ xs) n k ≡ fraction_product (product_over f zs n k) (taken (x ∷ xs) ys)) x xs ys
       (λ e. ap (λ t. fraction_product (natural_power (value_of x.form) x.power) t) (split xs ys h.1)
-      ∙ ap (λ p. fraction_product (natural_power (value_of x.form) p) (fraction_product (product_over f (without xs ys) n k) (taken xs ys))) (all_taken e)
+      ∙ ap (λ p. fraction_product (natural_power (value_of x.form) p) (fraction_product (product_over f (without xs ys) n k) (taken xs ys)))
+      (all_taken e)
       ∙ product_moved (natural_power (value_of x.form) (power_of x.form ys)) (product_over f (without xs ys) n k) (taken xs ys))
       (λ e. ap (λ t. fraction_product (natural_power (value_of x.form) x.power) t) (split xs ys h.1)
       ∙ ap (λ t. fraction_product t (fraction_product (product_over f (without xs ys) n k) (taken xs ys)))
@@ -46,7 +47,8 @@ module _ (f : ℤ → Fraction) (n k : ℤ) where
   -- a form that doesn't stand in the first list takes nothing from it
   takes_nothing : (b : Factor) (xs ys : List Factor) → IsAbsent b.form xs → taken xs (b ∷ ys) ≡ taken xs ys
   takes_nothing b [] ys h = refl
-  takes_nothing b (x ∷ xs) ys h = λ i. fraction_product (natural_power (value_of x.form) (power_later x.form b ys h.0 i)) (takes_nothing b xs ys h.1 i)
+  takes_nothing b (x ∷ xs) ys h = λ i. fraction_product (natural_power (value_of x.form) (power_later x.form b ys h.0 i))
+      (takes_nothing b xs ys h.1 i)
 
   -- one that stands in it takes its power
   takes_power : (b : Factor) (xs ys : List Factor) → NoFormTwice xs → 1 ≤ power_of b.form xs → power_of b.form ys ≡ 0
@@ -75,7 +77,8 @@ module _ (f : ℤ → Fraction) (n k : ℤ) where
       by (inl e) rest = here e
       by (inr n) rest = there n (rest (subst (λ m. 1 ≤ m) (power_later b.form x xs n) some))
 
-  takes_all : (xs ys : List Factor) → NoFormTwice xs → NoFormTwice ys → AllByRecursion (λ b. 1 ≤ power_of b.form xs) ys → taken xs ys ≡ product_over f ys n k
+  takes_all : (xs ys : List Factor) → NoFormTwice xs → NoFormTwice ys → AllByRecursion (λ b. 1 ≤ power_of b.form xs) ys → taken xs ys
+      ≡ product_over f ys n k
   takes_all xs [] h distinct some = none xs
     where
       none : (xs : List Factor) → taken xs [] ≡ of_whole (pos 1)

@@ -17,13 +17,15 @@ split : (xs ys : List Factor) → AllByRecursion (λ x. power_of x.form ys ≤ x
 split [] ys h = omega arith
 split (x ∷ xs) ys h =
     let rest : total_power xs ≡ total_power (without xs ys) + taken xs ys = split xs ys h.1 in
-    without_by (λ zs. total_power (x ∷ xs) ≡ total_power zs + taken (x ∷ xs) ys) x xs ys (λ e. omega (arith, e, h.0, rest)) (λ e. omega (arith, h.0, rest))
+    without_by (λ zs. total_power (x ∷ xs) ≡ total_power zs + taken (x ∷ xs) ys) x xs ys (λ e. omega (arith, e, h.0, rest))
+    (λ e. omega (arith, h.0, rest))
 
 takes_nothing : (b : Factor) (xs ys : List Factor) → IsAbsent b.form xs → taken xs (b ∷ ys) ≡ taken xs ys
 takes_nothing b [] ys h = refl
 takes_nothing b (x ∷ xs) ys h = λ i. power_later x.form b ys h.0 i + takes_nothing b xs ys h.1 i
 
-takes_power : (b : Factor) (xs ys : List Factor) → NoFormTwice xs → 1 ≤ power_of b.form xs → power_of b.form ys ≡ 0 → taken xs (b ∷ ys) ≡ b.power + taken xs ys
+takes_power : (b : Factor) (xs ys : List Factor) → NoFormTwice xs → 1 ≤ power_of b.form xs → power_of b.form ys ≡ 0 → taken xs (b ∷ ys)
+    ≡ b.power + taken xs ys
 takes_power b [] ys h some none = absurd (omega (arith, some))
 takes_power b (x ∷ xs) ys h some none = by (same_or_other b.form x.form) (λ there. takes_power b xs ys h.1 there none)
   where

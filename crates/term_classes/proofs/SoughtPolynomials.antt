@@ -14,7 +14,8 @@ abbrev where_there : {A B : Type 0} → (A → B) → Option A → Option B
 where_there f None = None
 where_there f (Some x) = Some (f x)
 
-made_gave : {A B : Type 0} (at : ℕ) (c : A → Counterpart) (f : A → B) (x : Option A) (y : Option B) → (made_of at c f x).outcome ≡ Ok y → where_there f x ≡ y
+made_gave : {A B : Type 0} (at : ℕ) (c : A → Counterpart) (f : A → B) (x : Option A) (y : Option B) → (made_of at c f x).outcome ≡ Ok y
+    → where_there f x ≡ y
 made_gave at c f None y e = same_Ok None y e
 made_gave at c f (Some x) y e = same_Ok (Some (f x)) y e
 
@@ -62,7 +63,8 @@ negative_exponent (Some p) c = refl
 small_exponent : (a : Option Meaning) (c : ℕ) → c ≤ 12 → raised a (Some (pos c)) ≡ where_there (λ p. poly_power p c) a
 small_exponent None c h = refl
 small_exponent (Some p) c h =
-    cond_both (nat_lt 12 c) None (Some (poly_power p c)) (λ r. r ≡ Some (poly_power p c)) (λ e. absurd (omega (arith, ltb-true 12 c e, h))) (λ e. refl)
+    cond_both (nat_lt 12 c) None (Some (poly_power p c)) (λ r. r ≡ Some (poly_power p c)) (λ e. absurd (omega (arith, ltb-true 12 c e, h)))
+    (λ e. refl)
 
 -- a base to the exponent that was found
 one_power : (at : ℕ) (base : Tree) (c : Option ℤ) (p : Option Meaning)
@@ -97,20 +99,23 @@ mutual
       factors_are parts g.value g.first ∙ made_gave at (λ ps. of_polynomial (sizes_multiplied ps)) product_of_polynomials g.value p g.second
   node_sought_is at (power_of base e) p h =
       let g = then_gave (polynomial_sought e) (λ p. where_some (constant_of p) (λ c. within_limit exponent_limit 12 (unsigned_abs c) c then (λ c1.
-          where_natural c (λ power. polynomial_sought base then (raised_at at power))))) p h in
+      where_natural c (λ power. polynomial_sought base then (raised_at at power))))) p h in
       ap (λ q. raised (tree_polynomial base) (constant_of q)) (sought_is e g.value g.first)
       ∙ one_power at base (constant_of g.value) p g.second (sought_is base)
   node_sought_is at (factorial_of t) p e = same_Ok None p e
   node_sought_is at (binomial_of l m) p e = same_Ok None p e
 
-  summands_are : (parts : Parts) (ps : Option (List Meaning)) → (summands_sought parts).outcome ≡ Ok ps → sum_polynomial parts ≡ where_there sum_of_polynomials ps
+  summands_are : (parts : Parts) (ps : Option (List Meaning)) → (summands_sought parts).outcome ≡ Ok ps → sum_polynomial parts
+      ≡ where_there sum_of_polynomials ps
   summands_are no_parts ps e = ap (where_there sum_of_polynomials) (same_Ok (Some []) ps e)
   summands_are (part turned t parts) ps e =
-      let g = then_gave (polynomial_sought t) (λ p. where_some p (λ p1. summands_sought parts then (λ ps. gives (in_front (signed_polynomial turned p1) ps)))) ps e in
+      let g = then_gave (polynomial_sought t) (λ p. where_some p
+      (λ p1. summands_sought parts then (λ ps. gives (in_front (signed_polynomial turned p1) ps)))) ps e in
       ap (λ a. combined in_n_and_k.sum (signed_poly turned a) (sum_polynomial parts)) (sought_is t g.value g.first)
       ∙ one_summand turned g.value parts ps g.second (summands_are parts)
 
-  factors_are : (parts : Parts) (ps : Option (List Meaning)) → (factors_sought parts).outcome ≡ Ok ps → product_polynomial parts ≡ where_there product_of_polynomials ps
+  factors_are : (parts : Parts) (ps : Option (List Meaning)) → (factors_sought parts).outcome ≡ Ok ps → product_polynomial parts
+      ≡ where_there product_of_polynomials ps
   factors_are no_parts ps e = ap (where_there product_of_polynomials) (same_Ok (Some []) ps e)
   factors_are (part true t parts) ps e = ap (where_there product_of_polynomials) (same_Ok None ps e)
   factors_are (part false t parts) ps e =

@@ -34,6 +34,7 @@ pub limit_gave : {A : Type 0} (name : Limit) (greatest count : ℕ) (x y : A) �
     → Within greatest count x y
 limit_gave {A} name greatest count x y e = by (nat_le count greatest) refl e
   where
-    by : (b : Bool) → nat_le count greatest ≡ b → (if b then gives x else refuses (limit name (capped count))).outcome ≡ Ok y → Within greatest count x y
+    by : (b : Bool) → nat_le count greatest ≡ b → (if b then gives x else refuses (limit name (capped count))).outcome ≡ Ok y
+        → Within greatest count x y
     by true h e = record { few = h; same = same_Ok x y e }
     by false h e = absurd (not_refused (limit name (capped count)) y e)

@@ -42,10 +42,12 @@ times_same s t u v p e = record {
 pub moved_last : (x y z : Fraction) → fraction_product (fraction_product x y) z ≡ fraction_product (fraction_product x z) y
 moved_last x y z = product_assoc x y z ∙ ap (fraction_product x) (product_comm y z) ∙ sym (product_assoc x z y)
 
-pub deeper : (a : Fraction) {y : Fraction} (z x : Fraction) → y ≅ fraction_product z x → fraction_product a y ≅ fraction_product (fraction_product a z) x
+pub deeper : (a : Fraction) {y : Fraction} (z x : Fraction) → y ≅ fraction_product z x → fraction_product a y
+    ≅ fraction_product (fraction_product a z) x
 deeper a {y} z x e = same_chain (same_products (same_itself a) e) (same (sym (product_assoc a z x)))
 
-pub outer : (r : Fraction) {y : Fraction} (z x : Fraction) → y ≅ fraction_product z x → fraction_product y r ≅ fraction_product (fraction_product z r) x
+pub outer : (r : Fraction) {y : Fraction} (z x : Fraction) → y ≅ fraction_product z x → fraction_product y r
+    ≅ fraction_product (fraction_product z r) x
 outer r {y} z x e = same_chain (same_products e (same_itself r)) (same (moved_last z x r))
 
 -- one more factor of a list
@@ -62,13 +64,15 @@ factor_times f a power (x ∷ xs) n k =
     ∙ sym (product_assoc (natural_power (f (form_value x.form n k)) x.power) (product_over f xs n k) (natural_power (f (form_value a n k)) power)))
 
 -- a fraction times another one to a power, in lowest terms
-pub power_multiplied : (f g : Fraction) (w : ℤ) → IsNonzero f → IsNonzero g → lowest_terms (fraction_product f (raised_fraction g w)) ≅ fraction_product f (whole_power g w)
+pub power_multiplied : (f g : Fraction) (w : ℤ) → IsNonzero f → IsNonzero g → lowest_terms (fraction_product f (raised_fraction g w))
+    ≅ fraction_product f (whole_power g w)
 power_multiplied f g w p q =
     same_chain (lowest_same (fraction_product f (raised_fraction g w)) (product_nonzero f (raised_fraction g w) p (raised_nonzero g w q)).bottom)
     (same_products (same_itself f) (raised_same g w q))
 
 pub multiplied_nonzero : (f g : Fraction) (w : ℤ) → IsNonzero f → IsNonzero g → IsNonzero (lowest_terms (fraction_product f (raised_fraction g w)))
-multiplied_nonzero f g w p q = lowest_nonzero (fraction_product f (raised_fraction g w)) (product_nonzero f (raised_fraction g w) p (raised_nonzero g w q))
+multiplied_nonzero f g w p q = lowest_nonzero (fraction_product f (raised_fraction g w))
+    (product_nonzero f (raised_fraction g w) p (raised_nonzero g w q))
 
 module _ (s : ProperTerm) (h : HasFractions s) where
   -- what stands after the first fields in the product that is the value
@@ -100,7 +104,8 @@ module _ (s : ProperTerm) (h : HasFractions s) where
       (fraction_product (whole_power s.k_base k) y))) ≅ fraction_product (proper_value s n k) x
   in_up_part n k x e = in_n_part n k x (deeper (whole_power s.n_base n) (k_part n k) x (deeper (whole_power s.k_base k) (up_part n k) x e))
 
-  pub scale_times : (g : Fraction) (w : ℤ) → IsNonzero g → IsTimes s (with_scale (lowest_terms (fraction_product s.scale (raised_fraction g w))) s) (λ n k. whole_power g w)
+  pub scale_times : (g : Fraction) (w : ℤ) → IsNonzero g
+      → IsTimes s (with_scale (lowest_terms (fraction_product s.scale (raised_fraction g w))) s) (λ n k. whole_power g w)
   scale_times g w q = record {
     fractions = record { scale = multiplied_nonzero s.scale g w h.scale q; n_base = h.n_base; k_base = h.k_base };
     value = λ n k. outer (poly_part n k) s.scale (whole_power g w) (power_multiplied s.scale g w h.scale q);
@@ -109,7 +114,9 @@ module _ (s : ProperTerm) (h : HasFractions s) where
   pub poly_times : (q : Meaning) → IsTimes s (with_poly (in_n_and_k.product s.poly q) s) (λ n k. of_whole (poly_value q n k))
   poly_times q = record {
     fractions = record { scale = h.scale; n_base = h.n_base; k_base = h.k_base };
-    value = λ n k. deeper s.scale (poly_part n k) (of_whole (poly_value q n k)) (outer (n_part n k) (of_whole (poly_value s.poly n k)) (of_whole (poly_value q n k)) (same (ap of_whole ((value_at_keeps (k ∷ n ∷ [])).product s.poly q))));
+    value = λ n k. deeper s.scale (poly_part n k) (of_whole (poly_value q n k))
+        (outer (n_part n k) (of_whole (poly_value s.poly n k)) (of_whole (poly_value q n k))
+        (same (ap of_whole ((value_at_keeps (k ∷ n ∷ [])).product s.poly q))));
   }
 
   -- a base to a power that is a base times another one to a power
@@ -117,13 +124,15 @@ module _ (s : ProperTerm) (h : HasFractions s) where
       → whole_power (lowest_terms (fraction_product b (raised_fraction g w))) z ≅ fraction_product (whole_power b z) (whole_power g (w *ℤ z))
   base_times b g w z p q =
       same_chain (same_whole_powers z (power_multiplied b g w p q))
-      (same_chain (same (whole_power_of_product b (whole_power g w) z)) (same_products (same_itself (whole_power b z)) (power_then_power g w z q.top)))
+      (same_chain (same (whole_power_of_product b (whole_power g w) z))
+      (same_products (same_itself (whole_power b z)) (power_then_power g w z q.top)))
 
   pub n_base_times : (g : Fraction) (w : ℤ) → IsNonzero g
       → IsTimes s (with_n_base (lowest_terms (fraction_product s.n_base (raised_fraction g w))) s) (λ n k. whole_power g (w *ℤ n))
   n_base_times g w q = record {
     fractions = record { scale = h.scale; n_base = multiplied_nonzero s.n_base g w h.n_base q; k_base = h.k_base };
-    value = λ n k. in_n_part n k (whole_power g (w *ℤ n)) (outer (k_part n k) (whole_power s.n_base n) (whole_power g (w *ℤ n)) (base_times s.n_base g w n h.n_base q));
+    value = λ n k. in_n_part n k (whole_power g (w *ℤ n))
+        (outer (k_part n k) (whole_power s.n_base n) (whole_power g (w *ℤ n)) (base_times s.n_base g w n h.n_base q));
   }
 
   pub k_base_times : (g : Fraction) (w : ℤ) → IsNonzero g
@@ -159,6 +168,7 @@ module _ (s : ProperTerm) (h : HasFractions s) where
     fractions = record { scale = h.scale; n_base = h.n_base; k_base = h.k_base };
     value = λ n k. in_up_part n k (natural_power (fraction_inverse (of_whole (form_value a n k))) power)
         (deeper (product_over factorial_value s.up n k) (down_part n k) (natural_power (fraction_inverse (of_whole (form_value a n k))) power)
-        (deeper (product_over inverse_factorial_value s.down n k) (over_part n k) (natural_power (fraction_inverse (of_whole (form_value a n k))) power)
+        (deeper (product_over inverse_factorial_value s.down n k) (over_part n k)
+        (natural_power (fraction_inverse (of_whole (form_value a n k))) power)
         (same (factor_times (λ z. fraction_inverse (of_whole z)) a power s.over n k))));
   }

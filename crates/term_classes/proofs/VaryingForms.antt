@@ -46,7 +46,8 @@ n_slope_not_zero : (xs : List Meaning) (s : ℤ) (l : LinearForm) → is_trimmed
     → form_of_coefficients xs (Some s) ≡ Some l → l.n_slope ≢ pos 0
 n_slope_not_zero [] s l t n e = absurd (none-some (pos 0) (sym n))
 n_slope_not_zero (c ∷ []) s l t n e = absurd (none-some (number_of c) (sym n))
-n_slope_not_zero (c ∷ d ∷ []) s l t n e = subst (λ (l : LinearForm). l.n_slope ≢ pos 0) (same_Some (with_numbers (number_of d) s (number_of c)) l e) (last_number d t)
+n_slope_not_zero (c ∷ d ∷ []) s l t n e = subst (λ (l : LinearForm). l.n_slope ≢ pos 0) (same_Some (with_numbers (number_of d) s (number_of c)) l e)
+    (last_number d t)
 n_slope_not_zero (c ∷ d ∷ b ∷ xs) s l t n e = absurd (none-some l e)
 
 given_slope : (xs : List Meaning) (s : ℤ) (l : LinearForm) → s ≢ pos 0 → form_of_coefficients xs (Some s) ≡ Some l → l.k_slope ≢ pos 0
@@ -61,13 +62,15 @@ k_slope_not_zero xs [] l some t e = absurd (true≢false (sym some))
 k_slope_not_zero xs (c ∷ []) l some t e = given_slope xs (number_of c) l (last_number c t) e
 k_slope_not_zero xs (c ∷ d ∷ ys) l some t e = absurd (none-some l e)
 
-items_not_constant : (xs : List Meaning) (l : LinearForm) → HasItems (level 1) xs → constant_in_k xs ≡ None → form_of_items xs ≡ Some l → IsNotConstant l
+items_not_constant : (xs : List Meaning) (l : LinearForm) → HasItems (level 1) xs → constant_in_k xs ≡ None → form_of_items xs ≡ Some l
+    → IsNotConstant l
 items_not_constant [] l h n e = absurd (none-some (pos 0) (sym n))
 items_not_constant (c ∷ []) l h n e =
     let inner = has_items (level 0) c (and_parts ((level 1).passes c) true h.each).0 in
     λ z. n_slope_not_zero (items c) (pos 0) l inner.trimmed n e z.0
 items_not_constant (c ∷ d ∷ []) l h n e =
-    let inner = has_items (level 0) d (and_parts ((level 1).passes d) true (and_parts ((level 1).passes c) (every_passes (level 1).passes (d ∷ [])) h.each).1).0 in
+    let inner = has_items (level 0) d (and_parts ((level 1).passes d) true
+    (and_parts ((level 1).passes c) (every_passes (level 1).passes (d ∷ [])) h.each).1).0 in
     λ z. k_slope_not_zero (items c) (items d) l h.trimmed inner.trimmed e z.1
 items_not_constant (c ∷ d ∷ b ∷ xs) l h n e = absurd (none-some l e)
 

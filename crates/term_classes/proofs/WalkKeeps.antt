@@ -44,9 +44,12 @@ with_over l w s = with_lists s.up s.down (lists.with_factor l w s.over) s.guard 
 
 -- each row keeps P
 pub record RowsKeep (P : ProperTerm → Type 0) : Type 0 where
-  pub scale : (s : ProperTerm) (g : Fraction) (w : ℤ) → P s → IsNonzero g → P (with_scale (lowest_terms (fraction_product s.scale (raised_fraction g w))) s)
-  pub n_base : (s : ProperTerm) (g : Fraction) (w : ℤ) → P s → IsNonzero g → P (with_n_base (lowest_terms (fraction_product s.n_base (raised_fraction g w))) s)
-  pub k_base : (s : ProperTerm) (g : Fraction) (w : ℤ) → P s → IsNonzero g → P (with_k_base (lowest_terms (fraction_product s.k_base (raised_fraction g w))) s)
+  pub scale : (s : ProperTerm) (g : Fraction) (w : ℤ) → P s → IsNonzero g
+      → P (with_scale (lowest_terms (fraction_product s.scale (raised_fraction g w))) s)
+  pub n_base : (s : ProperTerm) (g : Fraction) (w : ℤ) → P s → IsNonzero g
+      → P (with_n_base (lowest_terms (fraction_product s.n_base (raised_fraction g w))) s)
+  pub k_base : (s : ProperTerm) (g : Fraction) (w : ℤ) → P s → IsNonzero g
+      → P (with_k_base (lowest_terms (fraction_product s.k_base (raised_fraction g w))) s)
   pub poly : (s : ProperTerm) (q : Meaning) (w : ℕ) → P s → IsVarying q → P (with_poly (in_n_and_k.product s.poly (poly_power q w)) s)
   pub up : (s : ProperTerm) (l : LinearForm) (w : ℕ) → P s → IsWithinLimits l → 1 ≤ w → IsFew (with_up l w s) → P (with_up l w s)
   pub down : (s : ProperTerm) (l : LinearForm) (w : ℕ) → P s → IsWithinLimits l → 1 ≤ w → IsFew (with_down l w s) → P (with_down l w s)
@@ -60,8 +63,9 @@ few_given s s' e = leb-true (total_power s.up + total_power s.down + total_power
 pub limits_given : (l l' : LinearForm) → (limited_form l).outcome ≡ Ok l' → IsWithinLimits l
 limits_given l l' e =
     let g = then_gave (within_limit slope_limit 8 (unsigned_abs l.n_slope) l) (λ f1.
-        within_limit slope_limit 8 (unsigned_abs l.k_slope) l then (λ f2. within_limit offset_limit 1000000 (unsigned_abs l.offset) l)) l' e in
-    let h = then_gave (within_limit slope_limit 8 (unsigned_abs l.k_slope) l) (λ f2. within_limit offset_limit 1000000 (unsigned_abs l.offset) l) l' g.second in
+    within_limit slope_limit 8 (unsigned_abs l.k_slope) l then (λ f2. within_limit offset_limit 1000000 (unsigned_abs l.offset) l)) l' e in
+    let h = then_gave (within_limit slope_limit 8 (unsigned_abs l.k_slope) l) (λ f2. within_limit offset_limit 1000000 (unsigned_abs l.offset) l)
+    l' g.second in
     record {
       n_slope = leb-true (unsigned_abs l.n_slope) 8 (limit_gave slope_limit 8 (unsigned_abs l.n_slope) l g.value g.first).few;
       k_slope = leb-true (unsigned_abs l.k_slope) 8 (limit_gave slope_limit 8 (unsigned_abs l.k_slope) l h.value h.first).few;
@@ -83,12 +87,15 @@ module _ (P : ProperTerm → Type 0) (rows : RowsKeep P) where
   factorial_keeps l (negsuc w) s s' n limits p e =
       subst P (few_same (with_down l (suc w) s) s' e) (rows.down s l (suc w) p limits (omega arith) (few_given (with_down l (suc w) s) s' e))
 
-  denominator_keeps : (at : ℕ) (q : Meaning) (l : LinearForm) (w : ℕ) (s s' : ProperTerm) → IsVarying q → linear_form_of (Some q) ≡ Some l → IsWithinLimits l
+  denominator_keeps : (at : ℕ) (q : Meaning) (l : LinearForm) (w : ℕ) (s s' : ProperTerm) → IsVarying q → linear_form_of (Some q) ≡ Some l
+      → IsWithinLimits l
       → P s → (with_denominator at l (suc w) s).outcome ≡ Ok s' → P s'
   denominator_keeps at q l w s s' varying form limits p e =
       let t : ProperTerm = with_over (primitive_form l) (suc w) s in
-      let g = then_gave (few_factors t) (λ g. times_power at g.scale (of_whole (content_of_form l)) (negsuc w) then (λ s. gives (with_scale s g))) s' e in
-      subst P (same_Ok (with_scale (lowest_terms (fraction_product g.value.scale (raised_fraction (of_whole (content_of_form l)) (negsuc w)))) g.value) s' g.second)
+      let g = then_gave (few_factors t) (λ g. times_power at g.scale (of_whole (content_of_form l)) (negsuc w) then (λ s. gives (with_scale s g)))
+      s' e in
+      subst P (same_Ok (with_scale (lowest_terms (fraction_product g.value.scale (raised_fraction (of_whole (content_of_form l)) (negsuc w))))
+      g.value) s' g.second)
       (rows.scale g.value (of_whole (content_of_form l)) (negsuc w)
       (subst P (few_same t g.value g.first) (rows.over s q l (suc w) p varying form limits (omega arith) (few_given t g.value g.first)))
       (whole_nonzero (content_of_form l) (content_not_zero l (varying_not_zero q l varying form))))
@@ -128,7 +135,8 @@ module _ (P : ProperTerm → Type 0) (rows : RowsKeep P) where
       by (Some z) constant f = number_keeps at z w s s' p f
       by None constant f = polynomial_keeps at q w s s' (record { belongs = belongs q refl; no_number = constant }) p f
 
-  node_sought_keeps : (at : ℕ) (node : Node) (w : ℤ) (s s' : ProperTerm) → P s → (node_polynomial_sought at node then (times_sought at w s)).outcome ≡ Ok s' → P s'
+  node_sought_keeps : (at : ℕ) (node : Node) (w : ℤ) (s s' : ProperTerm) → P s → (node_polynomial_sought at node then (times_sought at w s)).outcome
+      ≡ Ok s' → P s'
   node_sought_keeps at node w s s' p e =
       let g = then_gave (node_polynomial_sought at node) (times_sought at w s) s' e in
       sought_keeps at w s s' g.value (λ q f. node_belongs node q (node_sought_is at node g.value g.first ∙ f)) p g.second
@@ -137,8 +145,9 @@ module _ (P : ProperTerm → Type 0) (rows : RowsKeep P) where
       → (exponential_walk at base e o w s).outcome ≡ Ok s' → P s'
   exponential_keeps at base e o w s s' p given =
       let a = then_gave (constant_sought base) (λ b. base_or_refused at b then (λ b1. form_or_refused 5 e o then (λ l.
-          limited_exponent l then (λ l1. times_exponential at b1 l w s)))) s' given in
-      let b = then_gave (base_or_refused at a.value) (λ b1. form_or_refused 5 e o then (λ l. limited_exponent l then (λ l1. times_exponential at b1 l w s))) s' a.second in
+      limited_exponent l then (λ l1. times_exponential at b1 l w s)))) s' given in
+      let b = then_gave (base_or_refused at a.value)
+      (λ b1. form_or_refused 5 e o then (λ l. limited_exponent l then (λ l1. times_exponential at b1 l w s))) s' a.second in
       let c = then_gave (form_or_refused 5 e o) (λ l. limited_exponent l then (λ l1. times_exponential at b.value l w s)) s' b.second in
       let d = skipped (limited_exponent c.value) (times_exponential at b.value c.value w s) s' c.second in
       let base_is = base_found at a.value b.value b.first in
@@ -147,7 +156,8 @@ module _ (P : ProperTerm → Type 0) (rows : RowsKeep P) where
       let in_k : ProperTerm = with_k_base (lowest_terms (fraction_product s.k_base (raised_fraction b.value (w *ℤ c.value.k_slope)))) scaled in
       subst P {x = with_n_base (lowest_terms (fraction_product s.n_base (raised_fraction b.value (w *ℤ c.value.n_slope)))) in_k}
       (same_Ok (with_n_base (lowest_terms (fraction_product s.n_base (raised_fraction b.value (w *ℤ c.value.n_slope)))) in_k) s' d)
-      (rows.n_base in_k b.value (w *ℤ c.value.n_slope) (rows.k_base scaled b.value (w *ℤ c.value.k_slope) (rows.scale s b.value (w *ℤ c.value.offset) p nonzero) nonzero) nonzero)
+      (rows.n_base in_k b.value (w *ℤ c.value.n_slope)
+      (rows.k_base scaled b.value (w *ℤ c.value.k_slope) (rows.scale s b.value (w *ℤ c.value.offset) p nonzero) nonzero) nonzero)
 
   three_keep : (l m d : LinearForm) (w : ℤ) (s s' : ProperTerm) → w ≢ pos 0 → IsWithinLimits l → IsWithinLimits m → IsWithinLimits d → P s
       → (three_factorials l m d w s).outcome ≡ Ok s' → P s'
@@ -164,7 +174,8 @@ module _ (P : ProperTerm → Type 0) (rows : RowsKeep P) where
       let c = then_gave (limited_form d) (λ d2. three_factorials l m d w s) s' b.second in
       three_keep l m d w s s' n (limits_given l a.value a.first) (limits_given m b.value b.first) (limits_given d c.value c.first) p c.second
 
-  binomial_keeps : (at : ℕ) (upper lower : Tree) (w : ℤ) (s s' : ProperTerm) → w ≢ pos 0 → P s → (times_binomial at upper lower w s).outcome ≡ Ok s' → P s'
+  binomial_keeps : (at : ℕ) (upper lower : Tree) (w : ℤ) (s s' : ProperTerm) → w ≢ pos 0 → P s → (times_binomial at upper lower w s).outcome ≡ Ok s'
+      → P s'
   binomial_keeps at upper lower w s s' n p e =
       let a = then_gave (argument_sought upper) (λ l. argument_sought lower then (λ m. arguments_tested at upper lower l m w s)) s' e in
       let l = a.value in
@@ -177,12 +188,13 @@ module _ (P : ProperTerm → Type 0) (rows : RowsKeep P) where
 
   power_keeps : (at : ℕ) (base e : Tree) (o : Option LinearForm) (c : Option ℤ) (w : ℤ) (s s' : ProperTerm) → w ≢ pos 0 → P s
       → (elim c as (λ _. Steps ProperTerm) [
-      | Some c ↦ within_limit exponent_limit 12 (unsigned_abs (w *ℤ c)) c then (λ c1. if is_zero c then gives s else walk base (w *ℤ c) s)
-      | None ↦ exponential_walk at base e o w s
+        | Some c ↦ within_limit exponent_limit 12 (unsigned_abs (w *ℤ c)) c then (λ c1. if is_zero c then gives s else walk base (w *ℤ c) s)
+        | None ↦ exponential_walk at base e o w s
       ]).outcome ≡ Ok s' → ((v : ℤ) → v ≢ pos 0 → (walk base v s).outcome ≡ Ok s' → P s') → P s'
   power_keeps at base e o None w s s' n p given rest = exponential_keeps at base e o w s s' p given
   power_keeps at base e o (Some c) w s s' n p given rest =
-      by (is_zero c) refl (skipped (within_limit exponent_limit 12 (unsigned_abs (w *ℤ c)) c) (if is_zero c then gives s else walk base (w *ℤ c) s) s' given)
+      by (is_zero c) refl (skipped (within_limit exponent_limit 12 (unsigned_abs (w *ℤ c)) c) (if is_zero c then gives s else walk base (w *ℤ c) s)
+      s' given)
     where
       by : (b : Bool) → is_zero c ≡ b → (if b then gives s else walk base (w *ℤ c) s).outcome ≡ Ok s' → P s'
       by true q f = subst P (same_Ok s s' f) p
@@ -198,7 +210,8 @@ module _ (P : ProperTerm → Type 0) (rows : RowsKeep P) where
     node_keeps at variable_k w s s' n p e = node_sought_keeps at variable_k w s s' p e
     node_keeps at (sum_of no_parts) w s s' n p e = node_sought_keeps at (sum_of no_parts) w s s' p e
     node_keeps at (sum_of (part false t parts)) w s s' n p e = node_sought_keeps at (sum_of (part false t parts)) w s s' p e
-    node_keeps at (sum_of (part true t (part turned u parts))) w s s' n p e = node_sought_keeps at (sum_of (part true t (part turned u parts))) w s s' p e
+    node_keeps at (sum_of (part true t (part turned u parts))) w s s' n p e = node_sought_keeps at (sum_of (part true t (part turned u parts)))
+        w s s' p e
     node_keeps at (sum_of (part true t no_parts)) w s s' n p e =
         walk_keeps t w (with_scale (lowest_terms (fraction_product s.scale (raised_fraction (of_whole (negsuc 0)) w))) s) s' n
         (rows.scale s (of_whole (negsuc 0)) w p (whole_nonzero (negsuc 0) minus_one_not_zero)) e

@@ -58,9 +58,11 @@ exponential_has : (at : ℕ) (base e : Tree) (p : Option Meaning) (w : ℤ) (s s
     → (exponential_walk at base e (linear_form_of p) w s).outcome ≡ Ok s' → IsTimes s s' (exponent_value base e w)
 exponential_has at base e p w s s' h is given =
     let a = then_gave (constant_sought base) (λ b. base_or_refused at b then (λ b1. form_or_refused 5 e (linear_form_of p) then (λ l.
-        limited_exponent l then (λ l1. times_exponential at b1 l w s)))) s' given in
-    let b = then_gave (base_or_refused at a.value) (λ b1. form_or_refused 5 e (linear_form_of p) then (λ l. limited_exponent l then (λ l1. times_exponential at b1 l w s))) s' a.second in
-    let c = then_gave (form_or_refused 5 e (linear_form_of p)) (λ l. limited_exponent l then (λ l1. times_exponential at b.value l w s)) s' b.second in
+    limited_exponent l then (λ l1. times_exponential at b1 l w s)))) s' given in
+    let b = then_gave (base_or_refused at a.value)
+    (λ b1. form_or_refused 5 e (linear_form_of p) then (λ l. limited_exponent l then (λ l1. times_exponential at b1 l w s))) s' a.second in
+    let c = then_gave (form_or_refused 5 e (linear_form_of p)) (λ l. limited_exponent l then (λ l1. times_exponential at b.value l w s))
+    s' b.second in
     let d = skipped (limited_exponent c.value) (times_exponential at b.value c.value w s) s' c.second in
     let base_is = base_found at a.value b.value b.first in
     let constant = constant_has base b.value (a.first ∙ ap Ok base_is.found) in
@@ -72,15 +74,16 @@ exponential_has at base e p w s s' h is given =
     (same_whole_powers (w *ℤ form_value c.value n k) (same_chain (constant.power (pos 1) n k) (same (product_one b.value))))))
 
 -- a constant exponent
-constant_walk : (base : Tree) (c w : ℤ) (s s' : ProperTerm) → HasFractions s → WalkMultiplies base → (b : Bool) → (if b then gives s else walk base (w *ℤ c) s).outcome ≡ Ok s'
+constant_walk : (base : Tree) (c w : ℤ) (s s' : ProperTerm) → HasFractions s → WalkMultiplies base → (b : Bool)
+    → (if b then gives s else walk base (w *ℤ c) s).outcome ≡ Ok s'
     → IsTimes s s' (λ n k. if b then of_whole (pos 1) else tree_value base (w *ℤ c) n k)
 constant_walk base c w s s' h rest true e = subst (λ t. IsTimes s t (λ n k. of_whole (pos 1))) (same_Ok s s' e) (times_nothing s h)
 constant_walk base c w s s' h rest false e = rest (w *ℤ c) s s' h e
 
 power_has : (at : ℕ) (base e : Tree) (p : Option Meaning) (c : Option ℤ) (w : ℤ) (s s' : ProperTerm) → HasFractions s → tree_polynomial e ≡ p
     → (elim c as (λ _. Steps ProperTerm) [
-    | Some c ↦ within_limit exponent_limit 12 (unsigned_abs (w *ℤ c)) c then (λ c1. if is_zero c then gives s else walk base (w *ℤ c) s)
-    | None ↦ exponential_walk at base e (linear_form_of p) w s
+      | Some c ↦ within_limit exponent_limit 12 (unsigned_abs (w *ℤ c)) c then (λ c1. if is_zero c then gives s else walk base (w *ℤ c) s)
+      | None ↦ exponential_walk at base e (linear_form_of p) w s
     ]).outcome ≡ Ok s' → WalkMultiplies base → IsTimes s s' (λ n k. power_value base c w n k (exponent_value base e w n k))
 power_has at base e p None w s s' h is given rest = exponential_has at base e p w s s' h is given
 power_has at base e p (Some c) w s s' h is given rest =
@@ -88,7 +91,8 @@ power_has at base e p (Some c) w s s' h is given rest =
     (skipped (within_limit exponent_limit 12 (unsigned_abs (w *ℤ c)) c) (if is_zero c then gives s else walk base (w *ℤ c) s) s' given)
 
 -- a literal, n, k or a sum
-sought_has : (at : ℕ) (node : Node) (w : ℤ) (s s' : ProperTerm) → HasFractions s → (node_polynomial_sought at node then (times_sought at w s)).outcome ≡ Ok s'
+sought_has : (at : ℕ) (node : Node) (w : ℤ) (s s' : ProperTerm) → HasFractions s
+    → (node_polynomial_sought at node then (times_sought at w s)).outcome ≡ Ok s'
     → IsTimes s s' (node_value node w)
 sought_has at node w s s' h e =
     let g = then_gave (node_polynomial_sought at node) (times_sought at w s) s' e in
@@ -102,7 +106,8 @@ mutual
   pub walk_multiplies : (t : Tree) → WalkMultiplies t
   walk_multiplies (tree at node) w s s' h e = node_multiplies at node w s s' h e
 
-  node_multiplies : (at : ℕ) (node : Node) (w : ℤ) (s s' : ProperTerm) → HasFractions s → (walk_node at node w s).outcome ≡ Ok s' → IsTimes s s' (node_value node w)
+  node_multiplies : (at : ℕ) (node : Node) (w : ℤ) (s s' : ProperTerm) → HasFractions s → (walk_node at node w s).outcome ≡ Ok s'
+      → IsTimes s s' (node_value node w)
   node_multiplies at (literal c) w s s' h e = sought_has at (literal c) w s s' h e
   node_multiplies at variable_n w s s' h e = sought_has at variable_n w s s' h e
   node_multiplies at variable_k w s s' h e = sought_has at variable_k w s s' h e
@@ -126,10 +131,12 @@ mutual
       let i = skipped (not_negative (place_of t) g.value) (limited_form g.value then (λ l2. with_factorial g.value w s)) s' g.second in
       let j = skipped (limited_form g.value) (with_factorial g.value w s) s' i in
       times_same s s' (λ n k. factorial_power w (form_value g.value n k)) (node_value (factorial_of t) w) (factorial_row g.value w s s' h j)
-      (λ n k. same (sym (at_whole_value (factorial_power w) (tree_value t (pos 1) n k) (form_value g.value n k) (argument_found t g.value g.first n k))))
+      (λ n k. same (sym (at_whole_value (factorial_power w) (tree_value t (pos 1) n k) (form_value g.value n k)
+      (argument_found t g.value g.first n k))))
   node_multiplies at (binomial_of upper lower) w s s' h e = binomial_row at upper lower w s s' h e
 
-  parts_multiply : (parts : Parts) (w : ℤ) (s s' : ProperTerm) → HasFractions s → (walk_parts parts w s).outcome ≡ Ok s' → IsTimes s s' (product_value parts w)
+  parts_multiply : (parts : Parts) (w : ℤ) (s s' : ProperTerm) → HasFractions s → (walk_parts parts w s).outcome ≡ Ok s'
+      → IsTimes s s' (product_value parts w)
   parts_multiply no_parts w s s' h e = subst (λ t. IsTimes s t (λ n k. of_whole (pos 1))) (same_Ok s s' e) (times_nothing s h)
   parts_multiply (part turned t parts) w s s' h e =
       let g = then_gave (walk t (part_power turned w) s) (λ g. walk_parts parts w g) s' e in
