@@ -22,8 +22,10 @@ use Rattle.term_classes.proofs.NonzeroPowers.{power_at_sum}
 use Rattle.term_classes.proofs.StepLaws.{then_gave, same_Ok, not_refused}
 use Rattle.term_classes.proofs.PolynomialValues.{tree_has}
 use Rattle.term_classes.proofs.SoughtPolynomials.{sought_is}
-use Rattle.term_classes.proofs.TermProducts.{IsTimes, times_both, times_same, scale_times, n_base_times, k_base_times}
-use Rattle.term_classes.proofs.FormValues.{linear_value, at_whole_value}
+use Rattle.term_classes.proofs.TermProducts.{IsTimes, times_both, times_same}
+use Rattle.term_classes.proofs.FieldProducts.{scale_times, n_base_times, k_base_times}
+use Rattle.term_classes.proofs.FormValues.{linear_value}
+use Rattle.term_classes.proofs.WholeValues.{at_whole_value}
 use Rattle.term_classes.proofs.WalkRows.{factorial_row}
 
 -- the tree has the value of the form

@@ -25,7 +25,7 @@ use Rattle.term_classes.proofs.FractionPowers.{fraction_same, whole_power_of_pro
 use Rattle.term_classes.proofs.NonzeroPowers.{power_then_power}
 use Rattle.term_classes.proofs.LowestTerms.{lowest_same, lowest_bottom_zero, raised_same, raised_natural, raised_nonzero}
 use Rattle.term_classes.proofs.StepLaws.{same_Ok}
-use Rattle.term_classes.proofs.PolynomialValues.{power_value}
+use Rattle.term_classes.proofs.PolynomialParts.{power_value}
 
 -- a polynomial that is a constant has its value at each point
 module _ (n k : ℤ) where

@@ -1,127 +1,23 @@
 -- The value of a tree for which a constant is found: the constant, to every whole power.
-use Rattle.std.proofs.Common.{◌≡◌, ℕ, refl, ap, sym, ◌∙◌, List, [], ◌∷◌, Bool, true, false, ◌&&◌, ◌||◌, Option, Some, None, subst, true≢false}
+use Rattle.std.proofs.Common.{◌≡◌, ℕ, ap, sym, List, [], true, false, Option, Some, None, subst}
 use Rattle.std.proofs.lemmas.Option.{same_Some, none-some}
-use Rattle.std.specs.Prelude.{ℤ, pos, ◌*ℤ◌, neg_ℤ, unsigned_abs, Ok}
-use Rattle.ring_laws.specs.Meaning.{Meaning, items}
-use Rattle.hypergeometric.specs.Fraction.{Fraction, of_whole, fraction_product, whole_power}
-use Rattle.hypergeometric.specs.ProperTerm.{poly_value, IsNonzero}
+use Rattle.std.specs.Prelude.{ℤ, pos, ◌*ℤ◌, unsigned_abs, Ok}
+use Rattle.ring_laws.specs.Meaning.{items}
+use Rattle.hypergeometric.specs.Fraction.{Fraction, whole_power}
 use Rattle.hypergeometric.specs.Tree.{Tree, tree, Node, literal, variable_n, variable_k, sum_of, product_of, power_of, factorial_of, binomial_of, Parts, no_parts, part}
-use Rattle.hypergeometric.specs.TreePolynomial.{constant_in_k, constant_of, node_polynomial}
-use Rattle.hypergeometric.specs.TreeValue.{tree_value, node_value, product_value, part_power, at_whole}
-use Rattle.hypergeometric.proofs.FractionLaws.{one_not_zero, product_not_zero}
+use Rattle.hypergeometric.specs.TreePolynomial.{constant_in_k, constant_of}
+use Rattle.hypergeometric.specs.TreeValue.{tree_value, node_value, product_value, at_whole}
+use Rattle.hypergeometric.proofs.FractionLaws.{one_not_zero}
 use Rattle.hypergeometric.proofs.PlainTerms.{whole_power_of_one}
 use Rattle.term_classes.specs.Refusals.{exponent_limit}
-use Rattle.term_classes.specs.Steps.{Steps, of_fraction, gives, within_limit, ◌then◌}
-use Rattle.term_classes.specs.Divisors.{lowest_terms}
-use Rattle.term_classes.specs.Forms.{is_zero}
-use Rattle.term_classes.specs.Sought.{where_some, in_front, FractionFactor, divides_by_zero, factor_fraction, product_of_fractions, product_made, power_made, whole_fraction, negative_of, polynomial_sought, node_polynomial_sought, constant_sought, node_constant_sought, constants_sought, top_sizes, bottom_sizes}
-use Rattle.term_classes.proofs.SameValues.{◌≅◌, same, same_chain, same_turned, same_products, same_whole_powers}
-use Rattle.term_classes.proofs.FractionPowers.{whole_power_of_product}
-use Rattle.term_classes.proofs.NonzeroPowers.{inverse_is_turned_over, negated_exponent}
-use Rattle.term_classes.proofs.LowestTerms.{lowest_same, lowest_bottom_zero}
+use Rattle.term_classes.specs.Steps.{Steps, gives, within_limit, ◌then◌}
+use Rattle.term_classes.specs.Sought.{where_some, in_front, FractionFactor, divides_by_zero, product_of_fractions, product_made, power_made, whole_fraction, negative_of, polynomial_sought, node_polynomial_sought, constant_sought, node_constant_sought, constants_sought}
+use Rattle.term_classes.proofs.SameValues.{same}
 use Rattle.term_classes.proofs.StepLaws.{then_gave, same_Ok}
-use Rattle.term_classes.proofs.PolynomialValues.{node_has, power_value}
+use Rattle.term_classes.proofs.PolynomialParts.{power_value}
 use Rattle.term_classes.proofs.SoughtPolynomials.{sought_is, node_sought_is}
-use Rattle.term_classes.proofs.ConstantPowers.{IsConstant, constant_value, negated_constant, power_made_has, unless_given, not_zero}
-
-abbrev FoundIn : Tree → Type 0
-FoundIn t = (f : Fraction) → (constant_sought t).outcome ≡ Ok (Some f) → IsConstant f (tree_value t)
-
--- a factor, or one that is divided by and isn't 0
-factor_has : (turned : Bool) (f : Fraction) (t : Tree) → IsConstant f (tree_value t) → (turned && is_zero f.top) ≡ false
-    → IsConstant (factor_fraction (turned, f)) (λ w n k. tree_value t (part_power turned w) n k)
-factor_has false f t h e = h
-factor_has true f t h e =
-    let nonzero : IsNonzero f = record { top = not_zero f.top e; bottom = h.defined } in
-    record {
-      defined = nonzero.top;
-      power = λ w n k. same_chain (h.power (neg_ℤ w) n k)
-          (same_chain (negated_exponent f w nonzero.top) (same_whole_powers w (inverse_is_turned_over f nonzero)));
-    }
-
-neither : (b c : Bool) → (b || c) ≡ false → (b ≡ false) × (c ≡ false)
-neither true c e = absurd (true≢false e)
-neither false c e = (refl, e)
-
-abbrev FactorsFoundIn : Parts → Type 0
-FactorsFoundIn parts = (fs : List FractionFactor) → (constants_sought parts).outcome ≡ Ok (Some fs) → divides_by_zero fs ≡ false
-    → IsConstant (product_of_fractions fs) (product_value parts)
-
-both_factors : (f g : Fraction) (u v : ℤ → ℤ → ℤ → Fraction) → IsConstant f u → IsConstant g v
-    → IsConstant (fraction_product f g) (λ w n k. fraction_product (u w n k) (v w n k))
-both_factors f g u v p q = record {
-  defined = product_not_zero f.bottom g.bottom p.defined q.defined;
-  power = λ w n k. same_chain (same_products (p.power w n k) (q.power w n k)) (same (sym (whole_power_of_product f g w)));
-}
-
--- a factor in front of the others
-in_front_has : (turned : Bool) (f : Fraction) (t : Tree) (parts : Parts) (gs : Option (List FractionFactor)) (fs : List FractionFactor)
-    → (constants_sought parts).outcome ≡ Ok gs → in_front (turned, f) gs ≡ Some fs → divides_by_zero fs ≡ false
-    → IsConstant f (tree_value t) → FactorsFoundIn parts → IsConstant (product_of_fractions fs) (product_value (part turned t parts))
-in_front_has turned f t parts None fs found e d h rest = absurd (none-some fs e)
-in_front_has turned f t parts (Some gs) fs found e d h rest =
-    let same_list : (turned, f) ∷ gs ≡ fs = same_Some ((turned, f) ∷ gs) fs e in
-    let parted = neither (turned && is_zero f.top) (divides_by_zero gs) (ap divides_by_zero same_list ∙ d) in
-    subst (λ fs. IsConstant (product_of_fractions fs) (product_value (part turned t parts))) same_list
-    (both_factors (factor_fraction (turned, f)) (product_of_fractions gs) (λ w n k. tree_value t (part_power turned w) n k) (product_value parts)
-    (factor_has turned f t h parted.0) (rest gs found parted.1))
-
-one_factor_has : (turned : Bool) (t : Tree) (a : Option Fraction) (parts : Parts) (fs : List FractionFactor)
-    → (where_some a (λ f1. constants_sought parts then (λ fs. gives (in_front (turned, f1) fs)))).outcome ≡ Ok (Some fs)
-    → divides_by_zero fs ≡ false → ((f : Fraction) → a ≡ Some f → IsConstant f (tree_value t)) → FactorsFoundIn parts
-    → IsConstant (product_of_fractions fs) (product_value (part turned t parts))
-one_factor_has turned t None parts fs e d h rest = absurd (none-some fs (same_Ok None (Some fs) e))
-one_factor_has turned t (Some f) parts fs e d h rest =
-    let g = then_gave (constants_sought parts) (λ fs. gives (in_front (turned, f) fs)) (Some fs) e in
-    in_front_has turned f t parts g.value fs g.first (same_Ok (in_front (turned, f) g.value) (Some fs) g.second) d (h f refl) rest
-
-product_found : (at : ℕ) (parts : Parts) (a : Option (List FractionFactor)) (f : Fraction) → (constants_sought parts).outcome ≡ Ok a
-    → (product_made at a).outcome ≡ Ok (Some f) → FactorsFoundIn parts → IsConstant f (product_value parts)
-product_found at parts None f found e rest = absurd (none-some f (same_Ok None (Some f) e))
-product_found at parts (Some fs) f found e rest =
-    let u = unless_given (divides_by_zero fs) (of_fraction (top_sizes fs) (bottom_sizes fs)) at (lowest_terms (product_of_fractions fs)) f e in
-    let h = rest fs found u.0 in
-    subst (λ f. IsConstant f (product_value parts)) u.1 (record {
-      defined = λ z. h.defined (lowest_bottom_zero (product_of_fractions fs) z);
-      power = λ w n k. same_chain (h.power w n k) (same_whole_powers w (same_turned (lowest_same (product_of_fractions fs) h.defined)));
-    })
-
-some_power : (at : ℕ) (base : Tree) (c : ℤ) (a : Option Fraction) (f : Fraction) (other : ℤ → ℤ → ℤ → Fraction)
-    → (constant_sought base).outcome ≡ Ok a → (where_some a (power_made at c)).outcome ≡ Ok (Some f) → FoundIn base
-    → IsConstant f (λ w n k. power_value base (Some c) w n k (other w n k))
-some_power at base c None f other found e h = absurd (none-some f (same_Ok None (Some f) e))
-some_power at base c (Some g) f other found e h = power_made_has base g (h g found) at c f other e
-
-power_found : (at : ℕ) (base : Tree) (c : Option ℤ) (f : Fraction) (other : ℤ → ℤ → ℤ → Fraction)
-    → (where_some c (λ c. within_limit exponent_limit 12 (unsigned_abs c) c then (λ c1.
-    constant_sought base then (λ f. where_some f (power_made at c))))).outcome ≡ Ok (Some f) → FoundIn base
-    → IsConstant f (λ w n k. power_value base c w n k (other w n k))
-power_found at base None f other e h = absurd (none-some f (same_Ok None (Some f) e))
-power_found at base (Some c) f other e h =
-    let g = then_gave (within_limit exponent_limit 12 (unsigned_abs c) c) (λ c1. constant_sought base then (λ f. where_some f (power_made at c)))
-    (Some f) e in
-    let b = then_gave (constant_sought base) (λ f. where_some f (power_made at c)) (Some f) g.second in
-    some_power at base c b.value f other b.first b.second h
-
-whole_given : (q : Meaning) (c : Option ℤ) (f : Fraction) → whole_fraction c ≡ Some f → constant_in_k (items q) ≡ c
-    → (value : ℤ → ℤ → ℤ → Fraction) → ((w n k : ℤ) → value w n k ≅ whole_power (of_whole (poly_value q n k)) w) → IsConstant f value
-whole_given q None f e constant value h = absurd (none-some f e)
-whole_given q (Some z) f e constant value h = subst (λ f. IsConstant f value) (same_Some (of_whole z) f e) (record {
-  defined = one_not_zero;
-  power = λ w n k. same_chain (h w n k) (same (ap (λ z. whole_power (of_whole z) w) (constant_value n k q z constant)));
-})
-
--- by its polynomial, or else by its other cases
-constant_or : (at : ℕ) (node : Node) (p : Option Meaning) (f : Fraction) → node_polynomial node ≡ p
-    → (elim p as (λ _. Steps (Option Fraction)) [
-      | Some q ↦ gives (whole_fraction (constant_in_k (items q)))
-      | None ↦ node_constant_sought at node
-    ]).outcome ≡ Ok (Some f)
-    → ((node_constant_sought at node).outcome ≡ Ok (Some f) → IsConstant f (node_value node)) → IsConstant f (node_value node)
-constant_or at node None f is e h = h e
-constant_or at node (Some q) f is e h =
-    whole_given q (constant_in_k (items q)) f (same_Ok (whole_fraction (constant_in_k (items q))) (Some f) e) refl (node_value node)
-    (node_has node q is)
+use Rattle.term_classes.proofs.ConstantPowers.{IsConstant, negated_constant}
+use Rattle.term_classes.proofs.ConstantProducts.{one_factor_has, product_found, power_found, constant_or}
 
 mutual
   pub constant_has : (t : Tree) (f : Fraction) → (constant_sought t).outcome ≡ Ok (Some f) → IsConstant f (tree_value t)

@@ -1,34 +1,25 @@
--- The value of the linear form of a polynomial, of its primitive part, and of a whole number that a fraction is.
-use Rattle.std.proofs.Common.{◌≡◌, ◌≢◌, ℕ, ◌%◌, refl, ap, sym, ◌∙◌, List, [], ◌∷◌, Option, Some, None, arith, subst, true≢false}
-use Rattle.std.proofs.lemmas.Int.{ints, quot-rem, unsigned_abs-mul}
-use Rattle.std.proofs.lemmas.Bool.{cond_both, eqb-true, eq-eqb}
+-- The value of the linear form of a polynomial, and of its primitive part.
+use Rattle.std.proofs.Common.{◌≡◌, ◌≢◌, ℕ, refl, ap, sym, ◌∙◌, List, [], ◌∷◌, Option, Some, None, subst}
 use Rattle.std.proofs.lemmas.Option.{same_Some, none-some}
 use Rattle.std.proofs.lemmas.Nat.Gcd.{dvd_trans}
-use Rattle.std.proofs.Math.Nat.{mul-mod_left}
-use Rattle.std.specs.Prelude.{ℤ, pos, ◌+ℤ◌, ◌*ℤ◌, unsigned_abs, if◌then◌else◌, nat_eq}
+use Rattle.std.specs.Prelude.{ℤ, pos, ◌+ℤ◌, ◌*ℤ◌, unsigned_abs}
 use Rattle.std.specs.Int.{◌∣◌, IsGcd}
-use Rattle.std.specs.Int.RustNames.{int_div, int_rem}
-use Rattle.ring_solver.proofs.Linear.{cancel}
+use Rattle.std.specs.Int.RustNames.{int_div}
 use Rattle.ring_solver.proofs.Read.{ring_z, reading_z}
 use Rattle.ring_laws.specs.Meaning.{Meaning, items}
 use Rattle.ring_laws.specs.Wholes.{number_of}
-use Rattle.ring_laws.specs.WholeDomain.{abs_nought}
-use Rattle.ring_laws.proofs.Quotients.{abs_rem}
 use Rattle.poly_laws.specs.Values.{value_at, horner}
-use Rattle.hypergeometric.specs.Fraction.{Fraction, of_whole, undefined_value}
 use Rattle.hypergeometric.specs.LinearForm.{LinearForm, form_value}
 use Rattle.hypergeometric.specs.ProperTerm.{poly_value}
 use Rattle.hypergeometric.specs.TreePolynomial.{constant_in_n}
-use Rattle.hypergeometric.specs.TreeValue.{whole_number_of, at_whole}
-use Rattle.hypergeometric.proofs.FractionLaws.{one_not_zero}
 use Rattle.term_classes.specs.Divisors.{greatest_common_divisor}
 use Rattle.term_classes.specs.Forms.{with_numbers, form_of_coefficients, form_of_items, linear_form_of, is_negative_first, content_of_form, primitive_form}
-use Rattle.term_classes.proofs.SameValues.{◌≅◌, times_zero}
-use Rattle.lin_form.specs.Forms.{IsGreatestDivisor}
-use Rattle.lin_form.proofs.PrimitiveForms.{IsNotZero}
+use Rattle.term_classes.proofs.SameValues.{times_zero}
 use Rattle.term_classes.proofs.GreatestDivisors.{greatest_is_gcd}
 use Rattle.term_classes.proofs.LowestTerms.{exact_quotient, turned_size}
 use Rattle.term_classes.proofs.ConstantPowers.{in_n_value}
+use Rattle.lin_form.specs.Forms.{IsGreatestDivisor}
+use Rattle.lin_form.proofs.PrimitiveForms.{IsNotZero}
 
 module _ (n k : ℤ) where
   no_coefficient : (n k s : ℤ) → pos 0 +ℤ k *ℤ s ≡ pos 0 *ℤ n +ℤ s *ℤ k +ℤ pos 0
@@ -126,32 +117,3 @@ content_not_zero f some e = some (
   where
     zero_multiple : (z q : ℤ) → content_of_form f ≡ pos 0 → q *ℤ content_of_form f ≡ z → z ≡ pos 0
     zero_multiple z q nothing h = sym h ∙ ap (λ c. q *ℤ c) nothing ∙ times_zero q
-
--- the whole number of a fraction that has the value of one
-whole_found : (f : Fraction) (z : ℤ) → f ≅ of_whole z → whole_number_of f ≡ Some z
-whole_found f z e =
-    cond_both (nat_eq (unsigned_abs f.bottom) 0) None
-    (if nat_eq (unsigned_abs (int_rem f.top f.bottom)) 0 then Some (int_div f.top f.bottom) else None) (λ o. o ≡ Some z)
-    (λ h. absurd (defined (abs_nought f.bottom (eqb-true (unsigned_abs f.bottom) 0 h))))
-    (λ h. cond_both (nat_eq (unsigned_abs (int_rem f.top f.bottom)) 0) (Some (int_div f.top f.bottom)) None (λ o. o ≡ Some z)
-    (λ g. ap Some quotient) (λ g. absurd (true≢false (sym (eq-eqb (unsigned_abs (int_rem f.top f.bottom)) 0 rest) ∙ g))))
-  where
-    defined : f.bottom ≢ pos 0
-    defined h = one_not_zero (e.zero_right h)
-
-    multiple : f.top ≡ z *ℤ f.bottom
-    multiple = sym (once f.top) ∙ e.cross
-      where
-        once : (t : ℤ) → t *ℤ pos 1 ≡ t
-        once t = ring_z (t ∷ []) (search reading_z depth 40 fits 20000) refl
-
-    rest : unsigned_abs (int_rem f.top f.bottom) ≡ 0
-    rest = abs_rem f.top f.bottom ∙ ap (λ t. unsigned_abs t % unsigned_abs f.bottom) multiple
-        ∙ ap (λ m. m % unsigned_abs f.bottom) (unsigned_abs-mul z f.bottom) ∙ mul-mod_left (unsigned_abs z) (unsigned_abs f.bottom)
-
-    quotient : int_div f.top f.bottom ≡ z
-    quotient = cancel f.bottom (int_div f.top f.bottom) z defined
-        (omega (arith, ints, quot-rem f.top f.bottom, abs_nought (int_rem f.top f.bottom) rest) ∙ multiple)
-
-pub at_whole_value : (g : ℤ → Fraction) (f : Fraction) (z : ℤ) → f ≅ of_whole z → at_whole g f ≡ g z
-at_whole_value g f z e = ap (λ o. elim o as (λ _. Fraction) [ Some z ↦ g z | None ↦ undefined_value ]) (whole_found f z e)

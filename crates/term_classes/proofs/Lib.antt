@@ -3,20 +3,25 @@ pub mod FractionPowers
 pub mod NonzeroPowers
 pub mod GreatestDivisors
 pub mod LowestTerms
+pub mod PolynomialParts
 pub mod PolynomialValues
 pub mod PassingPolynomials
 pub mod StepLaws
 pub mod SoughtPolynomials
 pub mod ConstantPowers
+pub mod ConstantProducts
 pub mod ConstantValues
 pub mod TermProducts
+pub mod FieldProducts
 pub mod VaryingForms
 pub mod FormValues
+pub mod WholeValues
 pub mod WalkRows
 pub mod ArgumentRows
 pub mod WalkValues
 pub mod SharedForms
 pub mod SharedProducts
+pub mod DefinedValues
 pub mod CancelledValues
 pub mod WalkKeeps
 pub mod GatheredLists
@@ -25,5 +30,6 @@ pub mod ReducedFractions
 pub mod NonzeroPolynomials
 pub mod PrimitiveDenominators
 pub mod SharedTotals
+pub mod LeftLists
 pub mod PlainClasses
 mod KnownClasses

@@ -1,5 +1,5 @@
 -- The class of a tree is a plain term, where its numbers are in bounds.
-use Rattle.std.proofs.Common.{◌≡◌, ◌≢◌, ◌+◌, ◌-◌, ◌*◌, ◌≤◌, min, ap, ◌∙◌, List, [], ◌∷◌, arith, subst, ⊎_elim}
+use Rattle.std.proofs.Common.{◌≡◌, ◌≢◌, ◌+◌, ◌-◌, ◌*◌, ◌≤◌, List, arith, subst}
 use Rattle.std.proofs.lemmas.Int.{ints}
 use Rattle.std.proofs.lemmas.Nat.Gcd.{dvd_antisymm}
 use Rattle.std.proofs.Math.Nat.{one-dvd}
@@ -7,18 +7,18 @@ use Rattle.std.specs.Prelude.{ℤ, pos, negsuc, Ok}
 use Rattle.std.specs.List.{AllByRecursion}
 use Rattle.hypergeometric.specs.Fraction.{of_whole}
 use Rattle.hypergeometric.specs.LinearForm.{LinearForm, Factor}
-use Rattle.hypergeometric.specs.FormOrder.{IsFactor, NoFormTwice}
+use Rattle.hypergeometric.specs.FormOrder.{NoFormTwice}
 use Rattle.hypergeometric.specs.ProperTerm.{ProperTerm}
 use Rattle.hypergeometric.specs.TermFacts.{IsWithinLimits, IsProper, IsPlain, total_power}
 use Rattle.hypergeometric.specs.Tree.{Tree}
 use Rattle.hypergeometric.proofs.FractionLaws.{one_not_zero}
-use Rattle.lin_form.specs.FactorLists.{factor_with, power_of}
+use Rattle.lin_form.specs.FactorLists.{power_of}
 use Rattle.term_classes.specs.Steps.{gives, ◌then◌}
 use Rattle.term_classes.specs.Walk.{unit_term, in_both, without, cancelled, walk, class_of, class_of_quotient}
 use Rattle.term_classes.specs.ClassBounds.{IsTermInBounds}
 use Rattle.term_classes.proofs.PassingPolynomials.{unit_belongs, unit_not_nought}
 use Rattle.term_classes.proofs.StepLaws.{then_gave, same_Ok}
-use Rattle.term_classes.proofs.SharedForms.{all_more, power_here, power_later, same_or_other, absent_power, own_powers, both_by, both_forms, both_distinct, both_in_first, both_in_second, both_below_first, both_below_second, without_by, without_forms, without_distinct}
+use Rattle.term_classes.proofs.SharedForms.{own_powers, both_forms, both_distinct, both_in_first, both_in_second, both_below_first, both_below_second, without_forms, without_distinct}
 use Rattle.term_classes.proofs.SharedTotals.{total_parts}
 use Rattle.term_classes.proofs.CancelledValues.{at_most_own}
 use Rattle.term_classes.proofs.WalkKeeps.{walk_keeps}
@@ -28,48 +28,7 @@ use Rattle.term_classes.proofs.ReducedFractions.{IsReduced, HasReduced, fraction
 use Rattle.term_classes.proofs.NonzeroPolynomials.{HasPolynomial, polynomials_keep}
 use Rattle.term_classes.proofs.PrimitiveDenominators.{HasPrimitive, denominators_keep}
 use Rattle.term_classes.proofs.ClassesHaveValues.{unit_lists}
-
-without_each : (xs ys : List Factor) → AllByRecursion IsFactor xs → AllByRecursion IsFactor (without xs ys)
-without_each [] ys h = tt
-without_each (x ∷ xs) ys h = without_by (AllByRecursion IsFactor) x xs ys (λ e. without_each xs ys h.1)
-    (λ e. (record { form = h.0.form; some = e; few = omega (arith, h.0.few) }, without_each xs ys h.1))
-
-both_each : (xs ys : List Factor) → AllByRecursion IsFactor xs → AllByRecursion IsFactor (in_both xs ys)
-both_each [] ys h = tt
-both_each (x ∷ xs) ys h = both_by (AllByRecursion IsFactor) x xs ys (λ e. both_each xs ys h.1)
-    (λ e. (record { form = h.0.form; some = omega (arith, e, h.0.some); few = omega (arith, h.0.few) }, both_each xs ys h.1))
-
--- the power of a shared form is the smaller of its two powers
-both_power : (f : LinearForm) (xs ys : List Factor) → NoFormTwice xs → power_of f (in_both xs ys) ≡ min (power_of f xs) (power_of f ys)
-both_power f [] ys h = omega arith
-both_power f (x ∷ xs) ys h = ⊎_elim here (there (both_power f xs ys h.1)) (same_or_other f x.form)
-  where
-    here : f ≡ x.form → power_of f (in_both (x ∷ xs) ys) ≡ min (power_of f (x ∷ xs)) (power_of f ys)
-    here e =
-        let absent : power_of f (in_both xs ys) ≡ 0 =
-        ap (λ g. power_of g (in_both xs ys)) e ∙ absent_power x.form (in_both xs ys) (both_forms (λ f. f ≢ x.form) xs ys h.0) in
-        let own : power_of f (x ∷ xs) ≡ x.power = power_here f x xs e in
-        let second : power_of f ys ≡ power_of x.form ys = ap (λ g. power_of g ys) e in
-        both_by (λ zs. power_of f zs ≡ min (power_of f (x ∷ xs)) (power_of f ys)) x xs ys (λ none. omega (arith, none, absent, own, second))
-        (λ some. omega (arith, power_here f (factor_with x.form (min x.power (power_of x.form ys))) (in_both xs ys) e, own, second))
-
-    there : power_of f (in_both xs ys) ≡ min (power_of f xs) (power_of f ys) → f ≢ x.form → power_of f (in_both (x ∷ xs) ys)
-        ≡ min (power_of f (x ∷ xs)) (power_of f ys)
-    there e n =
-        let later : power_of f (x ∷ xs) ≡ power_of f xs = power_later f x xs n in
-        both_by (λ zs. power_of f zs ≡ min (power_of f (x ∷ xs)) (power_of f ys)) x xs ys (λ none. omega (arith, e, later))
-        (λ some. omega (arith, e, later, power_later f (factor_with x.form (min x.power (power_of x.form ys))) (in_both xs ys) n))
-
--- of each form that is left something is left of its power
-left_powers : (xs zs ys : List Factor) → AllByRecursion (λ x. power_of x.form zs ≡ x.power) xs
-    → AllByRecursion (λ x. 1 ≤ power_of x.form zs - power_of x.form ys) (without xs ys)
-left_powers [] zs ys h = tt
-left_powers (x ∷ xs) zs ys h = without_by (AllByRecursion (λ x. 1 ≤ power_of x.form zs - power_of x.form ys)) x xs ys (λ e. left_powers xs zs ys h.1)
-    (λ e. (omega (arith, e, h.0), left_powers xs zs ys h.1))
-
-each_pair : (P Q : Factor → Type 0) (R : Factor → Factor → Type 0) → ((x y : Factor) → P x → Q y → R x y) → (xs ys : List Factor)
-    → AllByRecursion P xs → AllByRecursion Q ys → AllByRecursion (λ x. AllByRecursion (R x) ys) xs
-each_pair P Q R f xs ys p q = all_more P (λ x. AllByRecursion (R x) ys) (λ x h. all_more Q (R x) (λ y g. f x y h g) ys q) xs p
+use Rattle.term_classes.proofs.LeftLists.{without_each, both_each, both_power, left_powers, each_pair}
 
 -- what a term gathers in a walk
 pub record IsGathered (s : ProperTerm) : Type 0 where

@@ -13,9 +13,8 @@ use Rattle.hypergeometric.specs.TermFacts.{IsNumber, IsLowest}
 use Rattle.lin_form.proofs.Signs.{same_sign}
 use Rattle.term_classes.specs.Divisors.{turned_where, lowest_terms, raised_fraction}
 use Rattle.term_classes.proofs.GreatestDivisors.{greatest_is_gcd, greatest_positive}
-use Rattle.term_classes.proofs.LowestTerms.{divisor_of, is_turned, top_times, bottom_times, turned_size, lowest_nonzero}
+use Rattle.term_classes.proofs.LowestTerms.{divisor_of, is_turned, top_times, bottom_times, turned_size, lowest_nonzero, raised_nonzero}
 use Rattle.term_classes.proofs.NonzeroPowers.{product_nonzero}
-use Rattle.term_classes.proofs.LowestTerms.{raised_nonzero}
 use Rattle.term_classes.proofs.WalkKeeps.{RowsKeep}
 
 -- in lowest terms with a positive denominator, and not 0

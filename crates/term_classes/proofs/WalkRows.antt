@@ -20,9 +20,10 @@ use Rattle.term_classes.proofs.FractionPowers.{product_comm, whole_power_of_prod
 use Rattle.term_classes.proofs.PassingPolynomials.{Belongs}
 use Rattle.term_classes.proofs.VaryingForms.{IsVarying, varying_not_zero}
 use Rattle.term_classes.proofs.StepLaws.{then_gave, same_Ok, limit_gave, not_refused}
-use Rattle.term_classes.proofs.PolynomialValues.{value_of_power}
+use Rattle.term_classes.proofs.PolynomialParts.{value_of_power}
 use Rattle.term_classes.proofs.ConstantPowers.{constant_value, not_zero}
-use Rattle.term_classes.proofs.TermProducts.{IsTimes, times_both, times_same, scale_times, poly_times, up_times, down_times, over_times}
+use Rattle.term_classes.proofs.TermProducts.{IsTimes, times_both, times_same}
+use Rattle.term_classes.proofs.FieldProducts.{scale_times, poly_times, up_times, down_times, over_times}
 use Rattle.term_classes.proofs.FormValues.{linear_value, content_not_zero, content_times}
 
 pub few_same : (s s' : ProperTerm) → (few_factors s).outcome ≡ Ok s' → s ≡ s'

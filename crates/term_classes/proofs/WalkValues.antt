@@ -20,12 +20,14 @@ use Rattle.term_classes.proofs.SameValues.{same, same_chain, same_turned, same_w
 use Rattle.term_classes.proofs.FractionPowers.{product_one}
 use Rattle.term_classes.proofs.PassingPolynomials.{node_belongs}
 use Rattle.term_classes.proofs.StepLaws.{then_gave, same_Ok, not_refused}
-use Rattle.term_classes.proofs.PolynomialValues.{node_has, power_value}
+use Rattle.term_classes.proofs.PolynomialValues.{node_has}
+use Rattle.term_classes.proofs.PolynomialParts.{power_value}
 use Rattle.term_classes.proofs.SoughtPolynomials.{sought_is, node_sought_is}
 use Rattle.term_classes.proofs.ConstantPowers.{not_zero}
 use Rattle.term_classes.proofs.ConstantValues.{constant_has}
-use Rattle.term_classes.proofs.TermProducts.{IsTimes, times_nothing, times_both, times_same, scale_times}
-use Rattle.term_classes.proofs.FormValues.{at_whole_value}
+use Rattle.term_classes.proofs.TermProducts.{IsTimes, times_nothing, times_both, times_same}
+use Rattle.term_classes.proofs.FieldProducts.{scale_times}
+use Rattle.term_classes.proofs.WholeValues.{at_whole_value}
 use Rattle.term_classes.proofs.WalkRows.{factorial_row, sought_row}
 use Rattle.term_classes.proofs.ArgumentRows.{form_found, argument_found, exponential_row, binomial_row, skipped}
 
