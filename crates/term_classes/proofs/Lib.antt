@@ -23,6 +23,7 @@ pub mod SharedForms
 pub mod SharedProducts
 pub mod DefinedValues
 pub mod CancelledValues
+pub mod KeptRows
 pub mod WalkKeeps
 pub mod GatheredLists
 pub mod ClassesHaveValues

@@ -15,7 +15,7 @@ use Rattle.term_classes.specs.Divisors.{turned_where, lowest_terms, raised_fract
 use Rattle.term_classes.proofs.GreatestDivisors.{greatest_is_gcd, greatest_positive}
 use Rattle.term_classes.proofs.LowestTerms.{divisor_of, is_turned, top_times, bottom_times, turned_size, lowest_nonzero, raised_nonzero}
 use Rattle.term_classes.proofs.NonzeroPowers.{product_nonzero}
-use Rattle.term_classes.proofs.WalkKeeps.{RowsKeep}
+use Rattle.term_classes.proofs.KeptRows.{RowsKeep}
 
 -- in lowest terms with a positive denominator, and not 0
 pub record IsReduced (f : Fraction) : Type 0 where
