@@ -28,6 +28,7 @@ pub mod WalkKeeps
 pub mod GatheredLists
 pub mod ClassesHaveValues
 pub mod ReducedFractions
+pub mod OnlyLowest
 pub mod NonzeroPolynomials
 pub mod PrimitiveDenominators
 pub mod SharedTotals

@@ -7,7 +7,7 @@ use Rattle.std.proofs.Math.Nat.{one-dvd, mul-dvd-mul_right, dvd_of_mul-dvd-mul_l
 use Rattle.std.specs.Prelude.{ℤ, pos, negsuc, ◌*ℤ◌, ◌<ℤ◌, neg_ℤ, unsigned_abs, int_lt, ltb}
 use Rattle.std.specs.Int.{◌∣◌, IsGcd}
 use lib.IntN.{*ℤ_comm}
-use Rattle.hypergeometric.specs.Fraction.{Fraction, fraction_product}
+use Rattle.hypergeometric.specs.Fraction.{Fraction, IsDefined, fraction_product}
 use Rattle.hypergeometric.specs.ProperTerm.{ProperTerm, IsNonzero}
 use Rattle.hypergeometric.specs.TermFacts.{IsNumber, IsLowest}
 use Rattle.lin_form.proofs.Signs.{same_sign}
@@ -17,7 +17,12 @@ use Rattle.term_classes.proofs.LowestTerms.{divisor_of, is_turned, top_times, bo
 use Rattle.term_classes.proofs.NonzeroPowers.{product_nonzero}
 use Rattle.term_classes.proofs.KeptRows.{RowsKeep}
 
--- in lowest terms with a positive denominator, and not 0
+-- with a positive denominator, and no common divisor above 1
+pub record HasLowestTerms (f : Fraction) : Type 0 where
+  pub positive : pos 0 <ℤ f.bottom
+  pub coprime : (d : ℕ) → d ∣ unsigned_abs f.top → d ∣ unsigned_abs f.bottom → d ≡ 1
+
+-- and not 0
 pub record IsReduced (f : Fraction) : Type 0 where
   pub not_zero : f.top ≢ pos 0
   pub positive : pos 0 <ℤ f.bottom
@@ -37,14 +42,14 @@ turned_positive (pos (suc m)) n =
     (λ e. omega (arith, ints))
 turned_positive (negsuc m) n = omega (arith, ints)
 
-some_size : (z : ℤ) (m : ℕ) → z ≢ pos 0 → 0 < unsigned_abs z + m
+some_size : (z : ℤ) (m : ℕ) → z ≢ pos 0 → 0 < m + unsigned_abs z
 some_size (pos zero) m n = absurd (n refl)
 some_size (pos (suc a)) m n = omega arith
 some_size (negsuc a) m n = omega arith
 
-module _ (f : Fraction) (h : IsNonzero f) where
+module _ (f : Fraction) (defined : IsDefined f) where
   divisor_positive : 0 < divisor_of f
-  divisor_positive = greatest_positive (unsigned_abs f.top) (unsigned_abs f.bottom) (some_size f.top (unsigned_abs f.bottom) h.top)
+  divisor_positive = greatest_positive (unsigned_abs f.top) (unsigned_abs f.bottom) (some_size f.bottom (unsigned_abs f.top) defined)
 
   divisor_is : IsGcd (unsigned_abs f.top) (unsigned_abs f.bottom) (divisor_of f)
   divisor_is = greatest_is_gcd (unsigned_abs f.top) (unsigned_abs f.bottom)
@@ -67,14 +72,17 @@ module _ (f : Fraction) (h : IsNonzero f) where
       let right : g ≡ g * 1 = omega arith in
       dvd_antisymm (dvd_of_mul-dvd-mul_left d divisor_positive (subst (λ m. g * d ∣ m) right (subst (λ m. m ∣ g) left all))) (one-dvd d)
 
-  pub lowest_reduced : IsReduced (lowest_terms f)
-  lowest_reduced = record {
-    not_zero = (lowest_nonzero f h).top;
+  pub lowest_has_terms : HasLowestTerms (lowest_terms f)
+  lowest_has_terms = record {
     positive = same_sign (pos (divisor_of f)) (lowest_terms f).bottom (omega (arith, ints, divisor_positive))
-        (subst (λ (z : ℤ). pos 0 <ℤ z) (sym (*ℤ_comm (pos (divisor_of f)) (lowest_terms f).bottom ∙ bottom_times f))
-        (turned_positive f.bottom h.bottom));
+        (subst (λ (z : ℤ). pos 0 <ℤ z) (sym (*ℤ_comm (pos (divisor_of f)) (lowest_terms f).bottom ∙ bottom_times f)) (turned_positive f.bottom defined));
     coprime = no_common;
   }
+
+pub lowest_reduced : (f : Fraction) → IsNonzero f → IsReduced (lowest_terms f)
+lowest_reduced f h =
+    let terms = lowest_has_terms f h.bottom in
+    record { not_zero = (lowest_nonzero f h).top; positive = terms.positive; coprime = terms.coprime }
 
 -- the fractions of a term
 pub record HasReduced (s : ProperTerm) : Type 0 where
