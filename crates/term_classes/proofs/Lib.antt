@@ -29,6 +29,7 @@ pub mod GatheredLists
 pub mod ClassesHaveValues
 pub mod ReducedFractions
 pub mod OnlyLowest
+pub mod LowestConstants
 pub mod NonzeroPolynomials
 pub mod PrimitiveDenominators
 pub mod SharedTotals
