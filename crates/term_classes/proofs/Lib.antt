@@ -36,3 +36,4 @@ pub mod SharedTotals
 pub mod LeftLists
 pub mod PlainClasses
 mod KnownClasses
+mod KnownRecurrences

@@ -88,8 +88,8 @@ negated_terms (Some g) f e h = subst HasLowestTerms (same_Some (fraction_negativ
 
 polynomial_or : (at : ℕ) (node : Node) (p : Option Meaning) (f : Fraction)
     → (elim p as (λ _. Steps (Option Fraction)) [
-    | Some q ↦ gives (whole_fraction (constant_in_k (items q)))
-    | None ↦ node_constant_sought at node
+      | Some q ↦ gives (whole_fraction (constant_in_k (items q)))
+      | None ↦ node_constant_sought at node
     ]).outcome ≡ Ok (Some f)
     → ((node_constant_sought at node).outcome ≡ Ok (Some f) → HasLowestTerms f) → HasLowestTerms f
 polynomial_or at node None f e h = h e
@@ -121,7 +121,7 @@ mutual
       lowered_terms f (product_lowered at g.value f g.second) d
   node_terms at (power_of base e) f d h =
       let g = then_gave (polynomial_sought e) (λ p. where_some (constant_of p) (λ c. within_limit exponent_limit 12 (unsigned_abs c) c then (λ c1.
-          constant_sought base then (λ f. where_some f (power_made at c))))) (Some f) h in
+      constant_sought base then (λ f. where_some f (power_made at c))))) (Some f) h in
       lowered_terms f (exponent_lowered at base (constant_of g.value) f g.second) d
   node_terms at (factorial_of t) f d e = absurd (none-some f (same_Ok None (Some f) e))
   node_terms at (binomial_of l m) f d e = absurd (none-some f (same_Ok None (Some f) e))

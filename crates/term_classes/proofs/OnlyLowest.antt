@@ -28,7 +28,7 @@ terms_primitive f h = record { first = inl h.positive; coprime = λ d p q r. h.c
 one_fraction : (f g : Fraction) → HasLowestTerms f → HasLowestTerms g → f.top *ℤ g.bottom ≡ g.top *ℤ f.bottom → f ≡ g
 one_fraction f g p q cross =
     let same_multiples : multiple g.bottom (as_form f) ≡ multiple f.bottom (as_form g) =
-        λ i. form_with ((*ℤ_comm g.bottom f.top ∙ cross ∙ *ℤ_comm g.top f.bottom) i) (*ℤ_comm g.bottom f.bottom i) (none i) in
+    λ i. form_with ((*ℤ_comm g.bottom f.top ∙ cross ∙ *ℤ_comm g.top f.bottom) i) (*ℤ_comm g.bottom f.bottom i) (none i) in
     let form = (only_primitive g.bottom f.bottom (as_form f) (as_form g) same_multiples some (terms_primitive f p) (terms_primitive g q)).1 in
     fraction_same (ap (λ (l : LinearForm). l.n_slope) form) (ap (λ (l : LinearForm). l.k_slope) form)
   where

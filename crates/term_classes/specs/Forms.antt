@@ -52,7 +52,8 @@ difference_size f g = max (unsigned_abs f.n_slope + unsigned_abs g.n_slope)
 
 -- whether the first number that isn't 0, in the order k slope, n slope, offset, is negative
 abbrev pub is_negative_first : LinearForm → Bool
-is_negative_first f = cond (is_zero f.k_slope) (cond (is_zero f.n_slope) (int_lt f.offset (pos 0)) (int_lt f.n_slope (pos 0))) (int_lt f.k_slope (pos 0))
+is_negative_first f = cond (is_zero f.k_slope)
+    (cond (is_zero f.n_slope) (int_lt f.offset (pos 0)) (int_lt f.n_slope (pos 0))) (int_lt f.k_slope (pos 0))
 
 -- The greatest common divisor of the three numbers, with the sign of the first that isn't 0; and the form without it, which is primitive.
 abbrev pub content_of_form : LinearForm → ℤ
