@@ -1,6 +1,5 @@
 -- The class of a tree has its tree's value, and the class of a quotient that of the quotient.
-use Rattle.std.proofs.Common.{◌≡◌, ◌≢◌, ap, ◌∙◌, [], ◌∷◌, arith, subst}
-use Rattle.std.proofs.lemmas.Int.{ints}
+use Rattle.std.proofs.Common.{◌≡◌, ap, ◌∙◌, [], ◌∷◌, arith, subst}
 use Rattle.std.specs.Prelude.{ℤ, pos, negsuc, ◌*ℤ◌, Ok}
 use Rattle.poly_laws.proofs.Keeps.{value_at_keeps}
 use Rattle.hypergeometric.specs.Fraction.{Fraction, of_whole, fraction_product}
@@ -17,7 +16,7 @@ use Rattle.term_classes.proofs.SameValues.{◌≅◌, same, same_chain, same_def
 use Rattle.term_classes.proofs.FractionPowers.{one_product}
 use Rattle.term_classes.proofs.StepLaws.{then_gave, same_Ok}
 use Rattle.term_classes.proofs.TermProducts.{IsTimes, times_both}
-use Rattle.term_classes.proofs.WalkValues.{walk_multiplies}
+use Rattle.term_classes.proofs.WalkValues.{walk_multiplies, minus_one_not_zero}
 use Rattle.term_classes.proofs.WalkKeeps.{walk_keeps}
 use Rattle.term_classes.proofs.GatheredLists.{HasLists, lists_keep, list_some}
 use Rattle.term_classes.proofs.CancelledValues.{cancelled_has}
@@ -62,9 +61,6 @@ cancelled_value s v h lists =
       );
       equal = λ n k d. equal_chain (c.equal n k d) (same_equal (from_unit s v h n k) ((c.defined n k).0 d));
     }
-
-minus_one_not_zero : negsuc 0 ≢ pos 0
-minus_one_not_zero e = omega (arith, ints, e)
 
 pub class_has_the_value : (t : Tree) (f : ProperTerm) → (class_of t).outcome ≡ Ok f → HasValue f (term_value t)
 class_has_the_value t f e =

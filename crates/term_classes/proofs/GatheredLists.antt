@@ -14,7 +14,7 @@ use Rattle.lin_form.specs.FactorLists as lists
 use Rattle.lin_form.proofs.Lookups.{factors_stay}
 use Rattle.term_classes.specs.Forms.{content_of_form, primitive_form}
 use Rattle.term_classes.proofs.SharedForms.{AllSome, power_by, all_more}
-use Rattle.term_classes.proofs.KeptRows.{RowsKeep, IsFew}
+use Rattle.term_classes.proofs.RowFacts.{RowsKeep, IsFew}
 
 pub total_with : (l : LinearForm) (w : ℕ) (xs : List Factor) → total_power (lists.with_factor l w xs) ≡ total_power xs + w
 total_with l w [] = omega arith

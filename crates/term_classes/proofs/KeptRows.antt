@@ -1,25 +1,21 @@
--- What each row of the walk over a tree has to keep, and what is kept where they do.
-use Rattle.std.proofs.Common.{◌≡◌, ◌≢◌, ℕ, zero, suc, ◌+◌, ◌≤◌, refl, ap, ◌∙◌, Bool, true, false, Option, Some, None, arith, subst, ⊎_elim}
-use Rattle.std.proofs.lemmas.Int.{ints}
-use Rattle.std.proofs.lemmas.Bool.{leb-true}
+-- What is kept by the rows of the walk over a tree, where each keeps it.
+use Rattle.std.proofs.Common.{◌≡◌, ◌≢◌, ℕ, zero, suc, refl, ap, ◌∙◌, Bool, true, false, Option, Some, None, arith, subst, ⊎_elim}
 use Rattle.std.specs.Prelude.{ℤ, pos, negsuc, ◌*ℤ◌, neg_ℤ, unsigned_abs, int_lt, if◌then◌else◌, Ok}
 use Rattle.ring_solver.proofs.Linear.{product_zero}
 use Rattle.ring_laws.specs.Meaning.{Meaning, items}
-use Rattle.hypergeometric.specs.Fraction.{Fraction, of_whole, fraction_product}
+use Rattle.hypergeometric.specs.Fraction.{of_whole, fraction_product}
 use Rattle.hypergeometric.specs.LinearForm.{LinearForm}
 use Rattle.hypergeometric.specs.ProperTerm.{ProperTerm, IsNonzero}
-use Rattle.hypergeometric.specs.TermFacts.{IsWithinLimits, total_power}
+use Rattle.hypergeometric.specs.TermFacts.{IsWithinLimits}
 use Rattle.hypergeometric.specs.Tree.{Tree, Node}
 use Rattle.hypergeometric.specs.TreePolynomial.{in_n_and_k, poly_power, constant_in_k}
-use Rattle.hypergeometric.specs.TreeValue.{part_power}
-use Rattle.lin_form.specs.FactorLists as lists
-use Rattle.term_classes.specs.Refusals.{improper, slope_limit, offset_limit, exponent_limit, factors_limit}
+use Rattle.term_classes.specs.Refusals.{improper, exponent_limit}
 use Rattle.term_classes.specs.Steps.{Steps, gives, refuses, within_limit, ◌then◌}
 use Rattle.term_classes.specs.Divisors.{lowest_terms, raised_fraction}
 use Rattle.term_classes.specs.Forms.{is_zero, linear_form_of, form_difference, content_of_form, primitive_form, limited_form, limited_exponent}
 use Rattle.term_classes.specs.Sought.{node_polynomial_sought, constant_sought}
-use Rattle.term_classes.specs.Walk.{with_poly, with_scale, with_n_base, with_k_base, with_lists, place_of, times_power, few_factors, with_factorial, with_denominator, times_number, times_polynomial, times_sought, form_or_refused, base_or_refused, argument_sought, not_negative, times_exponential, times_binomial, walk}
-use Rattle.term_classes.proofs.StepLaws.{then_gave, same_Ok, limit_gave, not_refused}
+use Rattle.term_classes.specs.Walk.{with_poly, with_scale, with_n_base, with_k_base, place_of, times_power, few_factors, with_factorial, with_denominator, times_number, times_polynomial, times_sought, form_or_refused, base_or_refused, argument_sought, not_negative, times_exponential, times_binomial, walk}
+use Rattle.term_classes.proofs.StepLaws.{then_gave, same_Ok, not_refused}
 use Rattle.term_classes.proofs.SoughtPolynomials.{node_sought_is}
 use Rattle.term_classes.proofs.ConstantPowers.{not_zero}
 use Rattle.term_classes.proofs.ConstantValues.{constant_has}
@@ -29,58 +25,11 @@ use Rattle.term_classes.proofs.FormValues.{content_not_zero}
 use Rattle.term_classes.proofs.WalkRows.{few_same, whole_nonzero}
 use Rattle.term_classes.proofs.ArgumentRows.{skipped, three_factorials, limits_tested, difference_made, arguments_tested}
 use Rattle.term_classes.proofs.WalkValues.{base_found, exponential_walk}
-
-abbrev pub IsFew : ProperTerm → Type 0
-IsFew s = total_power s.up + total_power s.down + total_power s.over ≤ 24
-
-abbrev pub with_up : LinearForm → ℕ → ProperTerm → ProperTerm
-with_up l w s = with_lists (lists.with_factor l w s.up) s.down s.over s.guard s
-
-abbrev pub with_down : LinearForm → ℕ → ProperTerm → ProperTerm
-with_down l w s = with_lists s.up (lists.with_factor l w s.down) s.over s.guard s
-
-abbrev pub with_over : LinearForm → ℕ → ProperTerm → ProperTerm
-with_over l w s = with_lists s.up s.down (lists.with_factor l w s.over) s.guard s
-
--- each row keeps P
-pub record RowsKeep (P : ProperTerm → Type 0) : Type 0 where
-  pub scale : (s : ProperTerm) (g : Fraction) (w : ℤ) → P s → IsNonzero g
-      → P (with_scale (lowest_terms (fraction_product s.scale (raised_fraction g w))) s)
-  pub n_base : (s : ProperTerm) (g : Fraction) (w : ℤ) → P s → IsNonzero g
-      → P (with_n_base (lowest_terms (fraction_product s.n_base (raised_fraction g w))) s)
-  pub k_base : (s : ProperTerm) (g : Fraction) (w : ℤ) → P s → IsNonzero g
-      → P (with_k_base (lowest_terms (fraction_product s.k_base (raised_fraction g w))) s)
-  pub poly : (s : ProperTerm) (q : Meaning) (w : ℕ) → P s → IsVarying q → P (with_poly (in_n_and_k.product s.poly (poly_power q w)) s)
-  pub up : (s : ProperTerm) (l : LinearForm) (w : ℕ) → P s → IsWithinLimits l → 1 ≤ w → IsFew (with_up l w s) → P (with_up l w s)
-  pub down : (s : ProperTerm) (l : LinearForm) (w : ℕ) → P s → IsWithinLimits l → 1 ≤ w → IsFew (with_down l w s) → P (with_down l w s)
-  pub over : (s : ProperTerm) (q : Meaning) (l : LinearForm) (w : ℕ) → P s → IsVarying q → linear_form_of (Some q) ≡ Some l → IsWithinLimits l → 1 ≤ w
-      → IsFew (with_over (primitive_form l) w s) → P (with_over (primitive_form l) w s)
-
-few_given : (s s' : ProperTerm) → (few_factors s).outcome ≡ Ok s' → IsFew s
-few_given s s' e = leb-true (total_power s.up + total_power s.down + total_power s.over) 24
-    (limit_gave factors_limit 24 (total_power s.up + total_power s.down + total_power s.over) s s' e).few
-
-pub limits_given : (l l' : LinearForm) → (limited_form l).outcome ≡ Ok l' → IsWithinLimits l
-limits_given l l' e =
-    let g = then_gave (within_limit slope_limit 8 (unsigned_abs l.n_slope) l) (λ f1.
-    within_limit slope_limit 8 (unsigned_abs l.k_slope) l then (λ f2. within_limit offset_limit 1000000 (unsigned_abs l.offset) l)) l' e in
-    let h = then_gave (within_limit slope_limit 8 (unsigned_abs l.k_slope) l) (λ f2. within_limit offset_limit 1000000 (unsigned_abs l.offset) l)
-    l' g.second in
-    record {
-      n_slope = leb-true (unsigned_abs l.n_slope) 8 (limit_gave slope_limit 8 (unsigned_abs l.n_slope) l g.value g.first).few;
-      k_slope = leb-true (unsigned_abs l.k_slope) 8 (limit_gave slope_limit 8 (unsigned_abs l.k_slope) l h.value h.first).few;
-      offset = leb-true (unsigned_abs l.offset) 1000000 (limit_gave offset_limit 1000000 (unsigned_abs l.offset) l l' h.second).few;
-    }
-
-negated_not_zero : (w : ℤ) → w ≢ pos 0 → neg_ℤ w ≢ pos 0
-negated_not_zero w n e = n (omega (arith, ints, e))
-
-pub part_not_zero : (turned : Bool) (w : ℤ) → w ≢ pos 0 → part_power turned w ≢ pos 0
-part_not_zero true w n = negated_not_zero w n
-part_not_zero false w n = n
+use Rattle.term_classes.proofs.RowFacts.{with_up, with_down, with_over, RowsKeep, few_given, limits_given, negated_not_zero}
 
 module _ (P : ProperTerm → Type 0) (rows : RowsKeep P) where
-  pub factorial_keeps : (l : LinearForm) (w : ℤ) (s s' : ProperTerm) → w ≢ pos 0 → IsWithinLimits l → P s → (with_factorial l w s).outcome ≡ Ok s' → P s'
+  pub factorial_keeps : (l : LinearForm) (w : ℤ) (s s' : ProperTerm) → w ≢ pos 0 → IsWithinLimits l → P s → (with_factorial l w s).outcome ≡ Ok s'
+      → P s'
   factorial_keeps l (pos zero) s s' n limits p e = absurd (n refl)
   factorial_keeps l (pos (suc w)) s s' n limits p e =
       subst P (few_same (with_up l (suc w) s) s' e) (rows.up s l (suc w) p limits (omega arith) (few_given (with_up l (suc w) s) s' e))
@@ -135,7 +84,8 @@ module _ (P : ProperTerm → Type 0) (rows : RowsKeep P) where
       by (Some z) constant f = number_keeps at z w s s' p f
       by None constant f = polynomial_keeps at q w s s' (record { belongs = belongs q refl; no_number = constant }) p f
 
-  pub node_sought_keeps : (at : ℕ) (node : Node) (w : ℤ) (s s' : ProperTerm) → P s → (node_polynomial_sought at node then (times_sought at w s)).outcome
+  pub node_sought_keeps : (at : ℕ) (node : Node) (w : ℤ) (s s' : ProperTerm) → P s
+      → (node_polynomial_sought at node then (times_sought at w s)).outcome
       ≡ Ok s' → P s'
   node_sought_keeps at node w s s' p e =
       let g = then_gave (node_polynomial_sought at node) (times_sought at w s) s' e in
@@ -174,7 +124,8 @@ module _ (P : ProperTerm → Type 0) (rows : RowsKeep P) where
       let c = then_gave (limited_form d) (λ d2. three_factorials l m d w s) s' b.second in
       three_keep l m d w s s' n (limits_given l a.value a.first) (limits_given m b.value b.first) (limits_given d c.value c.first) p c.second
 
-  pub binomial_keeps : (at : ℕ) (upper lower : Tree) (w : ℤ) (s s' : ProperTerm) → w ≢ pos 0 → P s → (times_binomial at upper lower w s).outcome ≡ Ok s'
+  pub binomial_keeps : (at : ℕ) (upper lower : Tree) (w : ℤ) (s s' : ProperTerm) → w ≢ pos 0 → P s → (times_binomial at upper lower w s).outcome
+      ≡ Ok s'
       → P s'
   binomial_keeps at upper lower w s s' n p e =
       let a = then_gave (argument_sought upper) (λ l. argument_sought lower then (λ m. arguments_tested at upper lower l m w s)) s' e in

@@ -21,7 +21,8 @@ abbrev poly_n : Meaning
 poly_n = listed (number (pos 0) ∷ number (pos 1) ∷ [])
 
 -- n; 2; n+1
-known_recurrence : (recurrence_sought (n_at 0 ∷ number_at 3 2 ∷ tree 7 (sum_of (part false (n_at 6) (part false (number_at 8 1) no_parts))) ∷ [])).outcome
+known_recurrence : (recurrence_sought (n_at 0 ∷ number_at 3 2
+    ∷ tree 7 (sum_of (part false (n_at 6) (part false (number_at 8 1) no_parts))) ∷ [])).outcome
     ≡ Ok (poly_n ∷ listed (number (pos 2) ∷ []) ∷ listed (number (pos 1) ∷ number (pos 1) ∷ []) ∷ [])
 known_recurrence = refl
 

@@ -23,6 +23,7 @@ pub mod SharedForms
 pub mod SharedProducts
 pub mod DefinedValues
 pub mod CancelledValues
+pub mod RowFacts
 pub mod KeptRows
 pub mod WalkKeeps
 pub mod GatheredLists

@@ -74,7 +74,8 @@ exponent_lowered : (at : ℕ) (base : Tree) (c : Option ℤ) (f : Fraction)
     constant_sought base then (λ f. where_some f (power_made at c))))).outcome ≡ Ok (Some f) → IsLowered f
 exponent_lowered at base None f e = absurd (none-some f (same_Ok None (Some f) e))
 exponent_lowered at base (Some c) f e =
-    let g = then_gave (within_limit exponent_limit 12 (unsigned_abs c) c) (λ c1. constant_sought base then (λ f. where_some f (power_made at c))) (Some f) e in
+    let g = then_gave (within_limit exponent_limit 12 (unsigned_abs c) c) (λ c1. constant_sought base then (λ f. where_some f (power_made at c)))
+    (Some f) e in
     let b = then_gave (constant_sought base) (λ f. where_some f (power_made at c)) (Some f) g.second in
     some_power_lowered at c b.value f b.second
 

@@ -4,7 +4,7 @@ use Rattle.hypergeometric.specs.ProperTerm.{ProperTerm}
 use Rattle.hypergeometric.specs.TreePolynomial.{in_n_and_k, poly_power}
 use Rattle.term_classes.proofs.PassingPolynomials.{Belongs, power_belongs, product_belongs, product_not_nought, power_not_nought}
 use Rattle.term_classes.proofs.VaryingForms.{varying_not_nought}
-use Rattle.term_classes.proofs.KeptRows.{RowsKeep}
+use Rattle.term_classes.proofs.RowFacts.{RowsKeep}
 
 pub record HasPolynomial (s : ProperTerm) : Type 0 where
   pub belongs : Belongs s.poly

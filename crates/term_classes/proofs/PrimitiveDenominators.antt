@@ -18,7 +18,7 @@ use Rattle.term_classes.proofs.SameValues.{zero_or_not, zero_times}
 use Rattle.term_classes.proofs.FormValues.{divisor_of_form, content_size, content_divides, content_not_zero, k_slope_times, n_slope_times, offset_times}
 use Rattle.term_classes.proofs.VaryingForms.{varying_not_constant, varying_not_zero}
 use Rattle.term_classes.proofs.GatheredLists.{all_with}
-use Rattle.term_classes.proofs.KeptRows.{RowsKeep}
+use Rattle.term_classes.proofs.RowFacts.{RowsKeep}
 
 -- the sign of a number other than 0
 abbrev HasSign : ℤ → Type 0

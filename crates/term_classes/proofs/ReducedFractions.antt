@@ -15,7 +15,7 @@ use Rattle.term_classes.specs.Divisors.{turned_where, lowest_terms, raised_fract
 use Rattle.term_classes.proofs.GreatestDivisors.{greatest_is_gcd, greatest_positive}
 use Rattle.term_classes.proofs.LowestTerms.{divisor_of, is_turned, top_times, bottom_times, turned_size, lowest_nonzero, raised_nonzero}
 use Rattle.term_classes.proofs.NonzeroPowers.{product_nonzero}
-use Rattle.term_classes.proofs.KeptRows.{RowsKeep}
+use Rattle.term_classes.proofs.RowFacts.{RowsKeep}
 
 -- with a positive denominator, and no common divisor above 1
 pub record HasLowestTerms (f : Fraction) : Type 0 where
@@ -75,7 +75,8 @@ module _ (f : Fraction) (defined : IsDefined f) where
   pub lowest_has_terms : HasLowestTerms (lowest_terms f)
   lowest_has_terms = record {
     positive = same_sign (pos (divisor_of f)) (lowest_terms f).bottom (omega (arith, ints, divisor_positive))
-        (subst (λ (z : ℤ). pos 0 <ℤ z) (sym (*ℤ_comm (pos (divisor_of f)) (lowest_terms f).bottom ∙ bottom_times f)) (turned_positive f.bottom defined));
+        (subst (λ (z : ℤ). pos 0 <ℤ z) (sym (*ℤ_comm (pos (divisor_of f)) (lowest_terms f).bottom ∙ bottom_times f))
+        (turned_positive f.bottom defined));
     coprime = no_common;
   }
 

@@ -16,7 +16,8 @@ use Rattle.term_classes.proofs.StepLaws.{then_gave, same_Ok}
 use Rattle.term_classes.proofs.WalkRows.{whole_nonzero}
 use Rattle.term_classes.proofs.ArgumentRows.{skipped}
 use Rattle.term_classes.proofs.WalkValues.{exponential_walk, minus_one_not_zero}
-use Rattle.term_classes.proofs.KeptRows.{RowsKeep, limits_given, factorial_keeps, node_sought_keeps, binomial_keeps, power_keeps, part_not_zero}
+use Rattle.term_classes.proofs.RowFacts.{RowsKeep, limits_given, part_not_zero}
+use Rattle.term_classes.proofs.KeptRows.{factorial_keeps, node_sought_keeps, binomial_keeps, power_keeps}
 
 module _ (P : ProperTerm → Type 0) (rows : RowsKeep P) where
   mutual
