@@ -1,7 +1,10 @@
--- What the exit of a `?` returns, and what follows of a result that is good.
-use Rattle.std.proofs.Common.{◌≡◌, Result, Ok, Err, IfErr, IfOk, sym, subst}
+-- What the exit of a `?` returns, and what follows of a result that is good, and of a quotient or none.
+use Rattle.std.proofs.Common.{◌≡◌, Result, Ok, Err, IfErr, IfOk, Option, Some, None, sym, subst}
 use Rattle.std.specs.Result.{IsErrAnd}
+use Rattle.ring_laws.specs.Meaning.{Meaning}
+use Rattle.ring_laws.specs.Algebra.{Algebra, Passing}
 use Rattle.ring_laws.specs.Answer.{OnFault, fault_weaker}
+use Rattle.ring_laws.specs.Division.{Divides}
 use Rattle.ring_laws.specs.declared.faults.RingFault.{RingFault}
 
 pub fault_out : {T P Q : Type 0} (r : Result T RingFault) (fault : RingFault) → IsErrAnd r (λ e. e ≡ fault) → (P → Q) → OnFault (¬ Q) fault
@@ -12,3 +15,11 @@ fault_out {T} {P} {Q} (Err d) fault e f h = subst (OnFault (¬ P)) (sym e) (faul
 pub ok_gives : {T E : Type 0} {P Q : T → Type 0} (r : Result T E) → ((x : T) → P x → Q x) → IfOk r P → IfOk r Q
 ok_gives (Ok x) f h = f x h
 ok_gives (Err e) f h = tt
+
+pub divides_some : {T : Type 0} (meaning : T → Meaning) (a : Algebra) (InBounds : Meaning → Meaning → Type 0) (x y : Meaning) (r : Option T) (q : T) → r ≡ Some q
+    → Divides meaning a (InBounds x y) x y (Ok r) → a.ops.product (meaning q) y ≡ x
+divides_some meaning a InBounds x y r q e h = subst (λ t. Divides meaning a (InBounds x y) x y (Ok t)) e h
+
+pub divides_none : {T : Type 0} (meaning : T → Meaning) (a : Algebra) (InBounds : Meaning → Meaning → Type 0) (x y : Meaning) (r : Option T) → r ≡ None
+    → Divides meaning a (InBounds x y) x y (Ok r) → (q : Passing a) → ¬ (a.ops.product q.0 y ≡ x)
+divides_none meaning a InBounds x y r e h = subst (λ t. Divides meaning a (InBounds x y) x y (Ok t)) e h

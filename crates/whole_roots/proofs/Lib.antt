@@ -9,4 +9,7 @@ mod DifferenceLaws
 mod DifferenceBounds
 mod Faults
 mod RootBounds
+mod FormPowers
+mod FormLengths
+mod Stretching
 mod KnownRoots
