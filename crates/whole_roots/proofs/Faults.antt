@@ -1,9 +1,9 @@
 -- What the exit of a `?` returns, and what follows of a result that is good, and of a quotient or none.
-use Rattle.std.proofs.Common.{◌≡◌, Result, Ok, Err, IfErr, IfOk, Option, Some, None, sym, subst}
+use Rattle.std.proofs.Common.{◌≡◌, Result, Ok, Err, IfErr, IfOk, Option, Some, None, sym, ◌∙◌, subst}
 use Rattle.std.specs.Result.{IsErrAnd}
 use Rattle.ring_laws.specs.Meaning.{Meaning}
 use Rattle.ring_laws.specs.Algebra.{Algebra, Passing}
-use Rattle.ring_laws.specs.Answer.{OnFault, fault_weaker}
+use Rattle.ring_laws.specs.Answer.{OnFault, GivesInBounds, fault_weaker}
 use Rattle.ring_laws.specs.Division.{Divides}
 use Rattle.ring_laws.specs.declared.faults.RingFault.{RingFault}
 
@@ -23,3 +23,13 @@ divides_some meaning a InBounds x y r q e h = subst (λ t. Divides meaning a (In
 pub divides_none : {T : Type 0} (meaning : T → Meaning) (a : Algebra) (InBounds : Meaning → Meaning → Type 0) (x y : Meaning) (r : Option T) → r ≡ None
     → Divides meaning a (InBounds x y) x y (Ok r) → (q : Passing a) → ¬ (a.ops.product q.0 y ≡ x)
 divides_none meaning a InBounds x y r e h = subst (λ t. Divides meaning a (InBounds x y) x y (Ok t)) e h
+
+pub in_bounds_gives : {T : Type 0} (meaning : T → Meaning) (InBounds : Type 0) (m n : Meaning) (r : Result T RingFault) → m ≡ n
+    → GivesInBounds meaning InBounds m r → IfOk r (λ out. meaning out ≡ n)
+in_bounds_gives meaning InBounds m n (Ok x) e h = h.1 ∙ e
+in_bounds_gives meaning InBounds m n (Err fault) e h = tt
+
+pub in_bounds_fault : {T : Type 0} (meaning : T → Meaning) (InBounds P : Type 0) (m : Meaning) (r : Result T RingFault) → InBounds
+    → GivesInBounds meaning InBounds m r → IfErr r (OnFault P)
+in_bounds_fault meaning InBounds P m (Ok x) b h = tt
+in_bounds_fault meaning InBounds P m (Err fault) b h = fault_weaker fault (λ n. absurd (n b)) h
