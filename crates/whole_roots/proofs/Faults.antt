@@ -12,6 +12,12 @@ pub fault_out : {T P Q : Type 0} (r : Result T RingFault) (fault : RingFault) �
 fault_out (Ok v) fault e f h = tt
 fault_out {T} {P} {Q} (Err d) fault e f h = subst (OnFault (¬ P)) (sym e) (fault_weaker fault (λ n p. n (f p)) h)
 
+-- the same for what else is said of an error
+pub fault_with : {T P Q : Type 0} (r : Result T RingFault) (fault : RingFault) → IsErrAnd r (λ e. e ≡ fault) → (Q → P) → OnFault Q fault
+    → IfErr r (OnFault P)
+fault_with (Ok v) fault e f h = tt
+fault_with {T} {P} {Q} (Err d) fault e f h = subst (OnFault P) (sym e) (fault_weaker fault f h)
+
 pub ok_gives : {T E : Type 0} {P Q : T → Type 0} (r : Result T E) → ((x : T) → P x → Q x) → IfOk r P → IfOk r Q
 ok_gives (Ok x) f h = f x h
 ok_gives (Err e) f h = tt

@@ -10,6 +10,7 @@ mod DifferenceBounds
 mod Faults
 mod RootBounds
 mod FormPowers
+mod FactorLists
 mod FormLengths
 mod Stretching
 mod KnownRoots
