@@ -46,13 +46,13 @@ module _ (u : ℕ) (v : ℤ) (some : 1 ≤ u) (f q : Passing polynomials) (is : 
   abbrev poly : Ops (Passing polynomials)
   poly = within polynomials (poly_closed whole_algebra whole_laws.closed)
 
-  abbrev parts : Passing polynomials → List (Passing whole_algebra)
+  abbrev pub parts : Passing polynomials → List (Passing whole_algebra)
   parts x = coefficients whole_algebra whole_laws.closed x
 
   count : (x : Passing polynomials) → length (items x.0) ≡ length (parts x)
   count x = ap length (sym (meanings-coefficients whole_algebra whole_laws.closed x)) ∙ length-map (parts x) (λ (w : Passing whole_algebra). w.0)
 
-  form_parts : parts (form u v some) ≡ (number v, refl) ∷ (number (pos u), refl) ∷ []
+  pub form_parts : parts (form u v some) ≡ (number v, refl) ∷ (number (pos u), refl) ∷ []
   form_parts = meanings_same whole_algebra whole_laws.closed (parts (form u v some)) ((number v, refl) ∷ (number (pos u), refl) ∷ [])
       (meanings-coefficients whole_algebra whole_laws.closed (form u v some))
 
@@ -64,7 +64,7 @@ module _ (u : ℕ) (v : ℤ) (some : 1 ≤ u) (f q : Passing polynomials) (is : 
       ∙ coefficient-product whole_algebra whole_laws.closed whole_laws.ring (form u v some) q k
       ∙ ap (λ t. coefficient_at base (list_product base t (parts q)) k) form_parts
 
-  slope_not : ¬ ((number (pos u), refl) ≡ base.nought)
+  pub slope_not : ¬ ((number (pos u), refl) ≡ base.nought)
   slope_not e = absurd (omega (arith, some, zero_is u (ap (λ (x : Passing whole_algebra). number_of x.0) e)))
     where
       zero_is : (n : ℕ) → pos n ≡ pos 0 → n ≡ 0

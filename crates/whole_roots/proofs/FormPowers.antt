@@ -94,3 +94,8 @@ module _ (u : ℕ) (v : ℤ) (some : 1 ≤ u) where
   pub first_division : (f : Passing polynomials) → DivisionsInBounds u v f.0
       → DivisionInBounds whole_algebra (λ (x y : Meaning). ⊤) f.0 (linear (pos u) v)
   first_division f h = h 0 f (times_none f)
+
+  -- a quotient by the form itself
+  pub one_division : (f : Passing polynomials) (d : PowerDivides u v 1 f.0) → polynomials.ops.product d.quotient.0 (linear (pos u) v) ≡ f.0
+  one_division f d =
+      ap (λ (m : Meaning). polynomials.ops.product m (linear (pos u) v)) (sym (times_none d.quotient)) ∙ sym (times_more d.quotient 0) ∙ d.is

@@ -11,6 +11,8 @@ mod Faults
 mod RootBounds
 mod FormPowers
 mod FactorLists
+mod FactorRoots
+mod FactorSteps
 mod FormLengths
 mod Stretching
 mod KnownRoots

@@ -70,3 +70,9 @@ pub stretched_ended : (u : ℕ) (ws : List Whole) → IsTrue (is_trimmed whole_a
 stretched_ended u [] h = refl
 stretched_ended u (w ∷ []) h = ap (λ (z : ℤ). not (is_zero z)) (ap (λ (n : ℕ). w.value *ℤ pos n) (pow-zero u) ∙ times_one w.value) ∙ h
 stretched_ended u (w ∷ x ∷ xs) h = stretched_ended u (x ∷ xs) h
+
+-- a stretched polynomial isn't zero
+pub stretched_not_zero : (u : ℕ) (ws : List Whole) (g : Meaning) → g ≡ stretched u (listed (numbers ws)) → ¬ (listed (numbers ws) ≡ listed [])
+    → ¬ (g ≡ listed [])
+stretched_not_zero u [] g e n h = n refl
+stretched_not_zero u (w ∷ ws) g e n h = cc (ap (λ (m : Meaning). length (items m)) (sym e ∙ h))
