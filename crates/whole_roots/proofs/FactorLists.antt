@@ -1,9 +1,9 @@
 -- Lists of factors that grow at their end, form by form in rising order.
-use Rattle.std.specs.Prelude.{◌≡◌, ◌⊎◌, ℕ, ◌+◌, ◌≤◌, ◌<◌, ◌^◌, Bool, true, false, ◌&&◌, if◌then◌else◌, ℤ, neg_ℤ, ◌<ℤ◌, unsigned_abs, List, [], ◌∷◌, ◌++◌, refl}
+use Rattle.std.specs.Prelude.{◌≡◌, ◌⊎◌, ℕ, ◌≤◌, ◌<◌, ◌^◌, Bool, true, false, ◌&&◌, if◌then◌else◌, ℤ, unsigned_abs, List, [], ◌∷◌, ◌++◌, refl}
 use Rattle.std.specs.Int.{IsGcd, ◌∣◌}
 use Rattle.std.specs.List.{AllByRecursion}
 use Rattle.std.specs.Ordering.{int_eq}
-use Rattle.std.proofs.Common.{nat_eq, ap, sym, ◌∙◌, subst, inl, inr, ⊎_elim, true≢false, arith}
+use Rattle.std.proofs.Common.{nat_eq, ap, sym, ◌∙◌, subst, inl, inr, ⊎_elim, arith}
 use Rattle.std.proofs.Math.Nat.{eq-one_of_dvd-one}
 use Rattle.std.proofs.lemmas.Bool.{and_parts, eqb-true}
 use Rattle.std.proofs.lemmas.Bool.Decides.{Decides-int_eq}
@@ -11,7 +11,7 @@ use Rattle.std.proofs.lemmas.Int.{ints}
 use Rattle.indexmap.specs.IndexMap.{insert_entry}
 use Rattle.ring_laws.specs.Meaning.{Meaning}
 use Rattle.whole_roots.specs.LinearFactors.{IsProfileForm, PowerDivides, Entry, IsLinearFactor, IsBefore, IsRisingByForm, HasForm}
-use Rattle.whole_roots.specs.FactorSearch.{AreSmall, AreFactorsAmong, AddsFactor}
+use Rattle.whole_roots.specs.FactorSearch.{AreFactorsAmong, AddsFactor}
 
 -- what a greatest common divisor of 1 says, and what another one does
 pub profile_form : (u : ℕ) (v : ℤ) (g : ℕ) → 1 ≤ u → u ≤ 4 → IsGcd u (unsigned_abs v) g → g ≡ 1 → IsProfileForm u v

@@ -1,9 +1,9 @@
 -- A form that divides a polynomial gives a root of the stretched one.
-use Rattle.std.specs.Prelude.{◌≡◌, ◌⊎◌, ℕ, zero, suc, ◌≤◌, ◌^◌, ℤ, pos, ◌+ℤ◌, ◌*ℤ◌, neg_ℤ, IsTrue, not, false, List, [], ◌∷◌, length, refl}
-use Rattle.std.proofs.Common.{ap, sym, ◌∙◌, subst, ⊎_elim, pow-suc, arith}
+use Rattle.std.specs.Prelude.{◌≡◌, ℕ, zero, suc, ◌≤◌, ◌^◌, ℤ, pos, ◌+ℤ◌, ◌*ℤ◌, neg_ℤ, IsTrue, not, List, [], ◌∷◌, length, refl}
+use Rattle.std.proofs.Common.{ap, sym, ◌∙◌, ⊎_elim, pow-suc}
 use Rattle.std.proofs.lemmas.Bool.{false_from_ne_true}
 use Rattle.std.proofs.lemmas.List.{length-map}
-use Rattle.ring_laws.specs.Meaning.{Meaning, number, items, parted-joined}
+use Rattle.ring_laws.specs.Meaning.{number, items, parted-joined}
 use Rattle.ring_laws.specs.Algebra.{Ops, RingLaws, Passing, within, same_passing}
 use Rattle.ring_laws.specs.WholeDomain.{whole_domain}
 use Rattle.ring_laws.specs.WholeLaws.{whole_laws}

@@ -1,8 +1,7 @@
 -- How often a form divides a polynomial.
-use Rattle.std.specs.Prelude.{◌≡◌, ℕ, zero, suc, ◌+◌, ◌≤◌, ◌<◌, ℤ, pos, IsTrue, List, [], ◌∷◌, length, refl, ⊤}
+use Rattle.std.specs.Prelude.{◌≡◌, ℕ, zero, suc, ◌≤◌, ℤ, pos, IsTrue, [], length, refl, ⊤}
 use Rattle.std.proofs.Common.{ap, sym, ◌∙◌, arith}
-use Rattle.std.proofs.lemmas.List.{length-map}
-use Rattle.ring_laws.specs.Meaning.{Meaning, number, listed, items}
+use Rattle.ring_laws.specs.Meaning.{Meaning, listed, items}
 use Rattle.ring_laws.specs.Algebra.{Ops, Laws, Passing, within, same_passing}
 use Rattle.ring_laws.specs.Division.{DomainLaws}
 use Rattle.ring_laws.specs.WholeDomain.{whole_domain}

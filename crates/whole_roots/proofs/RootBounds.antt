@@ -8,7 +8,7 @@ use Rattle.ring_laws.specs.declared.wholes.Whole.{Whole}
 use Rattle.ring_solver.proofs.Read.{ring_z, reading_z}
 use Rattle.poly_laws.specs.Lists.{is_trimmed}
 use Rattle.poly_laws.specs.Values.{horner}
-use Rattle.whole_roots.specs.Roots.{IsRoot, IsItem, AreRoots}
+use Rattle.whole_roots.specs.Roots.{IsRoot, AreRoots}
 use Rattle.whole_roots.specs.Turns.{greatest, AreAll}
 use Rattle.whole_roots.proofs.AllOf.{all_rising, each_has, is_item}
 use Rattle.whole_roots.proofs.SignLemmas.{false_true}

@@ -9,7 +9,6 @@ use Rattle.ring_laws.specs.Meaning.{Meaning, number, listed, items, parted-joine
 use Rattle.ring_laws.specs.Wholes.{whole_algebra, is_zero}
 use Rattle.ring_laws.specs.declared.wholes.Whole.{Whole}
 use Rattle.poly_laws.specs.Lists.{coefficient_at, is_trimmed}
-use Rattle.poly_laws.proofs.Trimming.{trimmed_already}
 use Rattle.ring_solver.proofs.Read.{ring_z, reading_z}
 use Rattle.whole_roots.specs.FactorBounds.{stretched_list, stretched}
 

@@ -1,8 +1,8 @@
 use Rattle.std.specs.Prelude.{⊤}
-use Rattle.std.proofs.Common.{◌≡◌, ◌≢◌, ℕ, suc, ℤ, ◌+◌, ◌<◌, pos, [], map, length, Ok, Some, None, refl, sym, ◌∙◌, ap, subst, arith, to_z, of_z, Option}
+use Rattle.std.proofs.Common.{ℕ, suc, ℤ, pos, map, refl, sym, ◌∙◌, subst, arith, to_z, of_z}
 use Rattle.std.specs.Int.{w128}
 use Rattle.std.proofs.lemmas.Int.{to_z-of_z}
-use Rattle.ring_laws.specs.Meaning.{Meaning, number, listed, items}
+use Rattle.ring_laws.specs.Meaning.{Meaning, number, listed}
 use Rattle.ring_laws.specs.Algebra.{Passing}
 use Rattle.ring_laws.specs.Wholes.{whole_algebra}
 use Rattle.ring_laws.specs.declared.wholes.Whole.{Whole}

@@ -1,13 +1,11 @@
-use Rattle.std.proofs.Common.{◌≡◌, ◌≤◌, ◌++◌, ◌∷◌, [], ℕ, ℤ, inl, inr, refl, sym, ◌∙◌, ap, subst, map, unsigned_abs, arith}
+use Rattle.std.proofs.Common.{◌++◌, ◌∷◌, [], ℕ, ℤ, inl, inr, refl, sym, ◌∙◌, ap, subst, map, unsigned_abs, arith}
 use Rattle.std.specs.Int.{w128, IsGcd}
 use Rattle.std.proofs.Common.{to_z, of_z}
 use Rattle.std.specs.List.{AllByRecursion}
 use Rattle.std.proofs.lemmas.Int.{to_z-of_z}
 use Rattle.ring_laws.specs.Meaning.{number, listed}
-use Rattle.ring_laws.specs.Answer.{fault_weaker}
 use Rattle.ring_laws.specs.declared.wholes.Whole.{Whole}
 use Rattle.whole_roots.specs.FactorBounds.{DivisionsInBounds}
-use Rattle.whole_roots.specs.FactorSearch.{AddsFactor}
 use Rattle.whole_roots.specs.LinearFactors.{Entry, IsBefore, IsGreatestPower}
 use Rattle.whole_roots.proofs.FactorLists.{profile_form, no_profile_form, inserted_last}
 use Rattle.whole_roots.proofs.Faults.{fault_with}

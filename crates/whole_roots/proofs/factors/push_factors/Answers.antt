@@ -1,8 +1,6 @@
-use Rattle.std.proofs.Common.{◌≡◌, ℕ, ℤ, pos, neg_ℤ, ◌<ℤ◌, ◌+◌, ◌-◌, ◌-ℤ◌, ◌<◌, ◌^◌, ◌∷◌, List, map, length, drop, get_or, unsigned_abs, refl, ap, sym, ◌∙◌, subst, arith, to_z, of_z}
+use Rattle.std.proofs.Common.{◌≡◌, ℕ, ℤ, pos, neg_ℤ, ◌-◌, ◌-ℤ◌, ◌<◌, map, length, drop, ap, sym, ◌∙◌, subst, arith, to_z, of_z}
 use Rattle.std.specs.Int.{w128}
 use Rattle.std.specs.List.{AllByRecursion}
-use Rattle.std.proofs.lemmas.Int.{ints}
-use Rattle.std.proofs.lemmas.List.{drop_more}
 use Rattle.std.proofs.Math.Seq.{drop-length}
 use Rattle.ring_laws.specs.Meaning.{Meaning, number, listed}
 use Rattle.ring_laws.specs.Algebra.{Passing}
@@ -11,7 +9,7 @@ use Rattle.whole_roots.specs.Differences.{polynomials}
 use Rattle.whole_roots.specs.FactorBounds.{stretched, FactorsInBounds}
 use Rattle.whole_roots.specs.LinearFactors.{Entry, IsBefore}
 use Rattle.whole_roots.specs.FactorSearch.{AreFactorsAmong, AddsFactor}
-use Rattle.whole_roots.specs.Roots.{IsRoot, IsRising}
+use Rattle.whole_roots.specs.Roots.{IsRoot}
 use Rattle.whole_roots.proofs.Bounds.{negative_fits, held_negative, negative_not_least}
 use Rattle.whole_roots.proofs.DifferenceLaws.{polynomial_of}
 use Rattle.whole_roots.proofs.FactorRoots.{factor_gives_root}

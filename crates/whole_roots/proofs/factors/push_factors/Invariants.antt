@@ -2,7 +2,6 @@ use Rattle.std.proofs.Common.{◌≤◌, drop, length, map}
 use Rattle.ring_laws.specs.Meaning.{number, listed}
 use Rattle.whole_roots.specs.FactorSearch.{AreFactorsAmong}
 use Rattle.whole_roots.proofs.FactorSteps.{SeenAt}
-use Rattle.whole_roots.proofs.FactorRoots.{factor_gives_root}
 use Rattle.whole_roots.proofs.factors.push_factors.Given as goal
 
 -- the factors of smaller slopes, and those whose roots come before

@@ -1,5 +1,4 @@
-use Rattle.std.proofs.Common.{◌≡◌, ◌<◌, ◌^◌, ◌+◌, ◌*ℤ◌, pos, unsigned_abs, ap, sym, ◌∙◌, subst, ℤ, ◌*◌, arith}
-use Rattle.ring_laws.specs.Meaning.{Meaning}
+use Rattle.std.proofs.Common.{◌<◌, ◌^◌, ◌*ℤ◌, pos, unsigned_abs, ap, sym, ◌∙◌, subst, ℤ, ◌*◌, arith}
 use Rattle.ring_laws.specs.Wholes.{number_of}
 use Rattle.whole_roots.proofs.Faults.{fault_out}
 use Rattle.whole_roots.proofs.Stretching.{one_more_power, too_large_later}
