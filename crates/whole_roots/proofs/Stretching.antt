@@ -58,7 +58,6 @@ all_stretched u done ws index xs b h =
 times_one : (z : ℤ) → z *ℤ pos 1 ≡ z
 times_one z = ring_z (z ∷ []) (search reading_z depth 40 fits 20000) refl
 
-
 pub stretched_length : (u : ℕ) (xs : List Meaning) → length (stretched_list u xs) ≡ length xs
 stretched_length u [] = refl
 stretched_length u (x ∷ xs) = ap suc (stretched_length u xs)

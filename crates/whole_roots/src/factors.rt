@@ -18,12 +18,7 @@ use ring_laws::{Ring, RingFault, Whole, gcd_whole};
 use std::alloc::Global;
 
 // The number times a power of the slope.
-fn times_power(
-    alloc: Global,
-    number: Whole,
-    slope: Whole,
-    power: usize,
-) -> Result<Whole, RingFault>
+fn times_power(alloc: Global, number: Whole, slope: Whole, power: usize) -> Result<Whole, RingFault>
     requires slope { pos 1 ≤ℤ slope.value }
     ensures product { IfOk result (λ out. out.value ≡ number.value *ℤ pos (unsigned_abs slope.value ^ power)) }
     ensures too_large { IfErr result (OnFault (¬ (unsigned_abs (number.value *ℤ pos (unsigned_abs slope.value ^ power)) < 2 ^ 127))) }
