@@ -98,3 +98,6 @@ module _ (u : ℕ) (v : ℤ) (some : 1 ≤ u) where
   pub one_division : (f : Passing polynomials) (d : PowerDivides u v 1 f.0) → polynomials.ops.product d.quotient.0 (linear (pos u) v) ≡ f.0
   one_division f d =
       ap (λ (m : Meaning). polynomials.ops.product m (linear (pos u) v)) (sym (times_none d.quotient)) ∙ sym (times_more d.quotient 0) ∙ d.is
+
+  pub one_power : (f q : Passing polynomials) → polynomials.ops.product q.0 (linear (pos u) v) ≡ f.0 → PowerDivides u v 1 f.0
+  one_power f q is = record { quotient = q; is = step_out f q is 0 q (times_none q) }

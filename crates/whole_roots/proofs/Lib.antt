@@ -10,9 +10,12 @@ mod DifferenceBounds
 mod Faults
 mod RootBounds
 mod FormPowers
+mod Coprime
 mod FactorLists
 mod FactorRoots
 mod FactorSteps
+mod RootFactors
+mod FormParts
 mod FormLengths
 mod Stretching
 mod KnownRoots
