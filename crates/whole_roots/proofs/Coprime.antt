@@ -15,7 +15,8 @@ divides_within (suc fuel) a zero m x p coprime h k =
     subst (λ n. x ∣ n) (ap (λ n. m * n) (coprime a (dvd_refl a) (dvd-zero a)) ∙ mul-one m) h
 divides_within (suc fuel) a (suc b) m x p coprime h k =
     let less : a % suc b < suc b = mod-lt a (omega arith) in
-    let all : m * (a / suc b * suc b) + m * (a % suc b) ≡ m * a = sym (mul-add m (a / suc b * suc b) (a % suc b)) ∙ ap (λ n. m * n) (div-add-mod' a (suc b)) in
+    let all : m * (a / suc b * suc b) + m * (a % suc b) ≡ m * a =
+    sym (mul-add m (a / suc b * suc b) (a % suc b)) ∙ ap (λ n. m * n) (div-add-mod' a (suc b)) in
     let part : m * suc b * (a / suc b) ≡ m * (a / suc b * suc b) = mul_assoc m (suc b) (a / suc b) ∙ ap (λ n. m * n) (mul_comm (suc b) (a / suc b)) in
     divides_within fuel (suc b) (a % suc b) m x (omega (arith, p, less)) (λ d q r. coprime d ((dvd-mod_iff d q).0 r) q) k
     ((dvd-add_iff_right x (subst (λ n. x ∣ n) part (dvd-mul_right_of_dvd x k (a / suc b)))).1 (subst (λ n. x ∣ n) (sym all) h))

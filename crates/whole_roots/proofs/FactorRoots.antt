@@ -80,7 +80,8 @@ module _ (u : ℕ) (v : ℤ) where
   times_form_value c (q ∷ qs) =
       let rest = times_form base (whole (pos u)) (whole v) (base.product (whole (pos u)) q) qs in
       let n : length (meanings_of whole_algebra whole_laws.closed rest) ≡ suc (length qs) =
-      length-map rest (λ (x : Passing whole_algebra). x.0) ∙ times_form_length base whole_laws.ring (whole (pos u)) (whole v) (base.product (whole (pos u)) q) qs in
+      length-map rest (λ (x : Passing whole_algebra). x.0)
+      ∙ times_form_length base whole_laws.ring (whole (pos u)) (whole v) (base.product (whole (pos u)) q) qs in
       let more : pos (u ^ suc (length qs)) ≡ pos (u ^ length qs) *ℤ pos u = ap pos (pow-suc u (length qs)) in
       (λ i. (v *ℤ number_of q.0 +ℤ number_of c.0) *ℤ pos (u ^ n i) +ℤ neg_ℤ v *ℤ times_form_value (base.product (whole (pos u)) q) qs i)
       ∙ ap (λ (z : ℤ). (v *ℤ number_of q.0 +ℤ number_of c.0) *ℤ z +ℤ neg_ℤ v *ℤ (pos u *ℤ number_of q.0 *ℤ pos (u ^ length qs))) more
@@ -88,7 +89,8 @@ module _ (u : ℕ) (v : ℤ) where
       ∙ ap (λ (z : ℤ). number_of c.0 *ℤ z) (sym more)
 
   pub same_list : (qs : List (Passing whole_algebra)) (k : ℕ)
-      → coefficient_at base (list_product base qs (whole v ∷ whole (pos u) ∷ [])) k ≡ coefficient_at base (times_form base (whole (pos u)) (whole v) base.nought qs) k
+      → coefficient_at base (list_product base qs (whole v ∷ whole (pos u) ∷ [])) k
+      ≡ coefficient_at base (times_form base (whole (pos u)) (whole v) base.nought qs) k
   same_list qs zero = sym (times_form_at base whole_laws.ring (whole (pos u)) (whole v) base.nought qs 0
       ∙ sum_nought base whole_laws.ring (coefficient_at base (list_product base qs (whole v ∷ whole (pos u) ∷ [])) 0))
   same_list qs (suc k) = sym (times_form_at base whole_laws.ring (whole (pos u)) (whole v) base.nought qs (suc k)

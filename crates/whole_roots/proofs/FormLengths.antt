@@ -76,9 +76,12 @@ module _ (u : ℕ) (v : ℤ) (some : 1 ≤ u) (f q : Passing polynomials) (is : 
           (cases_lt (suc (length xs)) (length (parts f)))
 
 -- so has the list of a quotient
-pub shorter_list : (u : ℕ) (v : ℤ) → 1 ≤ u → (list next : List Whole) → IsTrue (is_trimmed whole_algebra.ops (map (λ (w : Whole). number w.value) list))
-    → IsTrue (is_trimmed whole_algebra.ops (map (λ (w : Whole). number w.value) next)) → ¬ (listed (map (λ (w : Whole). number w.value) list) ≡ listed [])
-    → polynomials.ops.product (listed (map (λ (w : Whole). number w.value) next)) (linear (pos u) v) ≡ listed (map (λ (w : Whole). number w.value) list)
+pub shorter_list : (u : ℕ) (v : ℤ) → 1 ≤ u → (list next : List Whole)
+    → IsTrue (is_trimmed whole_algebra.ops (map (λ (w : Whole). number w.value) list))
+    → IsTrue (is_trimmed whole_algebra.ops (map (λ (w : Whole). number w.value) next))
+    → ¬ (listed (map (λ (w : Whole). number w.value) list) ≡ listed [])
+    → polynomials.ops.product (listed (map (λ (w : Whole). number w.value) next)) (linear (pos u) v)
+    ≡ listed (map (λ (w : Whole). number w.value) list)
     → length next < length list
 shorter_list u v some list next ended short n is =
     let m = listed (map (λ (w : Whole). number w.value) list) in

@@ -14,8 +14,10 @@ mod Coprime
 mod FactorLists
 mod FactorRoots
 mod FactorSteps
+mod NextParts
 mod RootFactors
 mod FormParts
 mod FormLengths
 mod Stretching
 mod KnownRoots
+mod KnownFactors

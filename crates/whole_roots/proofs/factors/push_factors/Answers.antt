@@ -113,7 +113,8 @@ returns-in_err-push_factor-clause-too_large c =
     (λ h (b : FactorsInBounds m).
     h.1 (b.divisions c.args.slope constant h.0 (root_gives_factor c.args.slope constant h.0 f
     (subst (λ (z : ℤ). IsRoot (stretched c.args.slope m) z) (sym (twice_negative root _ (held_negative root small)))
-    (subst (λ (x : Meaning). IsRoot x root) c.in_ok-stretched.ensures.gives (root_at roots left root c.loop-left-test.true c.loop-left.invariant.within
+    (subst (λ (x : Meaning). IsRoot x root) c.in_ok-stretched.ensures.gives
+    (root_at roots left root c.loop-left-test.true c.loop-left.invariant.within
     c.index.ensures _ c.in_ok-roots.ensures.roots))))))
     c.in_err-push_factor.ensures.too_large
 
