@@ -1,11 +1,8 @@
 -- What a list of factors has while they are looked for, form by form in rising order.
-use Rattle.std.specs.Prelude.{◌≡◌, ℕ, ◌<◌, ◌^◌, ℤ, unsigned_abs, ◌⊎◌, List, [], ◌∷◌, ◌++◌}
+use Rattle.std.specs.Prelude.{◌≡◌, ℕ, ℤ, ◌⊎◌, List, [], ◌∷◌, ◌++◌}
 use Rattle.std.specs.List.{AllByRecursion}
 use Rattle.ring_laws.specs.Meaning.{Meaning}
-use Rattle.whole_roots.specs.LinearFactors.{IsProfileForm, PowerDivides, Entry, IsLinearFactor, IsRisingByForm, HasForm}
-
-abbrev pub AreSmall : List Entry → Type 0
-AreSmall xs = AllByRecursion (λ (x : Entry). unsigned_abs x.0.1 < 2 ^ 127) xs
+use Rattle.whole_roots.specs.LinearFactors.{IsProfileForm, PowerDivides, Entry, IsLinearFactor, IsRisingByForm, HasForm, AreSmall}
 
 -- the list has exactly the factors among the forms that were seen
 pub record AreFactorsAmong (Seen : ℕ → ℤ → Type 0) (f : Meaning) (xs : List Entry) : Type 0 where

@@ -1,5 +1,5 @@
 -- The linear factors of a polynomial in n: the forms u*n + v of small slope that divide it, and how often.
-use Rattle.std.specs.Prelude.{◌≡◌, ℕ, zero, suc, ◌<◌, ◌≤◌, ℤ, pos, ◌<ℤ◌, unsigned_abs, ◌⊎◌, List, [], ◌∷◌, ⊤}
+use Rattle.std.specs.Prelude.{◌≡◌, ℕ, zero, suc, ◌<◌, ◌≤◌, ◌^◌, ℤ, pos, ◌<ℤ◌, unsigned_abs, ◌⊎◌, List, [], ◌∷◌, ⊤}
 use Rattle.std.specs.Int.{◌∣◌}
 use Rattle.std.specs.List.{AllByRecursion}
 use Rattle.ring_laws.specs.Meaning.{Meaning}
@@ -23,6 +23,7 @@ pub record PowerDivides (u : ℕ) (v : ℤ) (e : ℕ) (f : Meaning) : Type 0 whe
   pub quotient : Passing polynomials
   pub is : polynomials.ops.product quotient.0 (form_power u v e) ≡ f
 
+-- (u*n + v)^e divides f, and no greater power does
 pub record IsGreatestPower (u : ℕ) (v : ℤ) (e : ℕ) (f : Meaning) : Type 0 where
   pub divides : PowerDivides u v e f
   pub greatest : (k : ℕ) → PowerDivides u v k f → k ≤ e
@@ -31,6 +32,7 @@ pub record IsGreatestPower (u : ℕ) (v : ℤ) (e : ℕ) (f : Meaning) : Type 0 
 abbrev pub Entry : Type 0
 Entry = (ℕ × ℤ) × ℕ
 
+-- a form of the profile that divides f, with its greatest power
 pub record IsLinearFactor (f : Meaning) (x : Entry) : Type 0 where
   pub form : IsProfileForm x.0.0 x.0.1
   pub some : 1 ≤ x.1
@@ -55,3 +57,7 @@ pub record AreLinearFactors (f : Meaning) (xs : List Entry) : Type 0 where
   pub rising : IsRisingByForm xs
   pub each : AllByRecursion (IsLinearFactor f) xs
   pub all : (u : ℕ) (v : ℤ) → IsProfileForm u v → PowerDivides u v 1 f → HasForm u v xs
+
+-- each constant is below 2^127 in magnitude
+abbrev pub AreSmall : List Entry → Type 0
+AreSmall xs = AllByRecursion (λ (x : Entry). unsigned_abs x.0.1 < 2 ^ 127) xs

@@ -8,8 +8,8 @@ ghost use Rattle.ring_laws.specs.Meaning.{listed, items};
 ghost use Rattle.ring_laws.specs.Answer.{OnFault};
 ghost use Rattle.ring_laws.specs.Wholes.{whole_algebra};
 ghost use Rattle.poly_laws.specs.Lists.{coefficient_at};
-ghost use Rattle.whole_roots.specs.LinearFactors.{Entry, IsProfileForm, IsBefore, IsGreatestPower, AreLinearFactors};
-ghost use Rattle.whole_roots.specs.FactorSearch.{AreSmall, AreFactorsAmong, AddsFactor};
+ghost use Rattle.whole_roots.specs.LinearFactors.{Entry, IsProfileForm, IsBefore, IsGreatestPower, AreLinearFactors, AreSmall};
+ghost use Rattle.whole_roots.specs.FactorSearch.{AreFactorsAmong, AddsFactor};
 ghost use Rattle.whole_roots.specs.FactorBounds.{stretched, stretched_list, DivisionsInBounds, FactorsInBounds};
 
 use crate::roots::whole_roots;
@@ -127,8 +127,6 @@ fn push_factors(
 pub fn linear_factors(alloc: Global, f: &Zn) -> Result<IndexMap<(u8, i128), u32>, RingFault>
     requires not_zero { ⟦<Zn as Ring>⟧.meaning f.now ≢ listed [] }
     ensures factors { IfOk result (λ factors. AreLinearFactors (⟦<Zn as Ring>⟧.meaning f.now) factors.entries) }
-
-    // Each constant is below 2^127 in magnitude.
     ensures small { IfOk result (λ factors. AreSmall factors.entries) }
     ensures too_large { IfErr result (OnFault (¬ (FactorsInBounds (⟦<Zn as Ring>⟧.meaning f.now)))) }
 {
