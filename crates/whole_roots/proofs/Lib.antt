@@ -9,4 +9,15 @@ mod DifferenceLaws
 mod DifferenceBounds
 mod Faults
 mod RootBounds
+mod FormPowers
+mod Coprime
+mod FactorLists
+mod FactorRoots
+mod FactorSteps
+mod NextParts
+mod RootFactors
+mod FormParts
+mod FormLengths
+mod Stretching
 mod KnownRoots
+mod KnownFactors
