@@ -3,3 +3,5 @@ pub mod Clamps
 pub mod Roots
 pub mod Differences
 pub mod Turns
+pub mod LinearFactors
+pub mod FactorBounds

@@ -7,10 +7,12 @@
 #![tactic(auto)]
 
 mod differences;
+mod factors;
 mod roots;
 mod signs;
 mod turns;
 
+pub use factors::linear_factors;
 pub use roots::whole_roots;
 pub use signs::sign_at;
 
