@@ -11,7 +11,8 @@ use Rattle.poly_laws.proofs.Coefficients.{meanings_same}
 use Rattle.poly_laws.proofs.ListLaws.{product_nought}
 use Rattle.poly_laws.proofs.OneQuotient.{equal_by, neg_product}
 use Rattle.poly_laws.proofs.PolyDomain.{no_divisors_within}
-use Rattle.kernel_laws.specs.Reduction.{bare}
+use Rattle.kernel_laws.specs.Rows.{entry_at}
+use Rattle.kernel_laws.specs.Reduction.{Reduces, bare}
 use Rattle.reducing.specs.TakenOut.{raised_to, times_row, TakenOut, AllTakenOut, none, next}
 
 module _ (a : Algebra) (l : Laws a) (d : DomainLaws a) where
@@ -183,3 +184,23 @@ module _ (a : Algebra) (l : Laws a) (d : DomainLaws a) where
   all_taken_out_multiple [] f old new none = same_multiple old
   all_taken_out_multiple (t ∷ ts) f old new (next {between = x} h hs) =
       multiple_twice old x new (taken_out_multiple (t, f.0.0) (not_zero t f.0) old x h) (all_taken_out_multiple ts f.1 x new hs)
+
+  at_scaled : (t : Passing a) (row : Row) (k : ℕ) → a.ops.product t.0 (entry_at a.ops (bare a row) k) ≡ entry_at a.ops (bare a (scaled t row)) k
+  at_scaled t [] k = ap (λ (v : Passing a). v.0) (product_nought W l.ring t)
+  at_scaled t (x ∷ xs) zero = ap (λ (v : Passing a). v.0) (l.ring.product_comm t x)
+  at_scaled t (x ∷ xs) (suc k) = at_scaled t xs k
+
+  length-scaled : (t : Passing a) (row : Row) → length (bare a (scaled t row)) ≡ length (bare a row)
+  length-scaled t [] = refl
+  length-scaled t (x ∷ xs) = ap suc (length-scaled t xs)
+
+  -- what a reduction of rows has to give
+  pub multiple_reduces : (old new : Row) → Multiple old new → Reduces a (bare a old) (bare a new)
+  multiple_reduces old new h = record {
+    size = sym (length-scaled h.factor new) ∙ ap (λ r. length (bare a r)) (sym h.is);
+    row = new;
+    row_is = refl;
+    factor = h.factor;
+    not_zero = λ e. h.not_zero (same_passing a h.factor W.nought e);
+    is = λ k. at_scaled h.factor new k ∙ ap (λ r. entry_at a.ops (bare a r) k) (sym h.is);
+  }
