@@ -1,2 +1,8 @@
 mod Divisors
 mod WholeRows
+mod Polynomials
+mod LeastEntries
+mod RowQuotients
+mod ContentQuotients
+mod WithoutFactors
+mod RowContents

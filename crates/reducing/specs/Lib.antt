@@ -6,3 +6,4 @@ pub mod TakenOutLaws
 pub mod PolynomialRows
 pub mod PolynomialLaws
 pub mod SplitLaws
+pub mod PolynomialAnswers

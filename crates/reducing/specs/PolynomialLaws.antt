@@ -37,7 +37,7 @@ abbrev pub P : Ops (Passing polynomials)
 P = within polynomials laws.closed
 
 -- ---- the linear factors of a polynomial, in their order, are one list of forms
-linear_is_factor : (u : ℕ) (v : ℤ) → 1 ≤ u → IsFactor polynomials laws domain (linear (pos u) v)
+pub linear_is_factor : (u : ℕ) (v : ℤ) → 1 ≤ u → IsFactor polynomials laws domain (linear (pos u) v)
 linear_is_factor zero v h = absurd (omega arith)
 linear_is_factor (suc u) v h = (refl, λ e. cc)
 
@@ -148,7 +148,7 @@ pub polynomials_reduce : (old new : List Meaning) → PolynomialsReduced old new
 polynomials_reduce old new h =
     subst (λ r. Reduces polynomials r new) (sym h.row_is)
     (subst (λ r. Reduces polynomials (meant h.row) r) (sym h.result_is)
-    (multiple_reduces polynomials laws domain h.row h.result (multiple h.row h.result h.reduced)))
+    (multiple_reduces polynomials laws domain h.row h.result (multiple h.row h.result h.holds)))
 
 one_quotients : (old quotients others : Row) → WithoutContent old quotients → WithoutContent old others → quotients ≡ others
 one_quotients old quotients others h k =
@@ -181,4 +181,4 @@ one_reduced old new other (divides q xs w f t) (divides r ys x g s) =
 pub one_row : (old new other : List Meaning) → PolynomialsReduced old new → PolynomialsReduced old other → new ≡ other
 one_row old new other h k =
     let same : k.row ≡ h.row = meanings_same polynomials laws.closed k.row h.row (sym k.row_is ∙ h.row_is) in
-    h.result_is ∙ ap meant (one_reduced h.row h.result k.result h.reduced (subst (λ r. Reduced r k.result) same k.reduced)) ∙ sym k.result_is
+    h.result_is ∙ ap meant (one_reduced h.row h.result k.result h.holds (subst (λ r. Reduced r k.result) same k.holds)) ∙ sym k.result_is

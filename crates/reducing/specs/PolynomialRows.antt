@@ -65,13 +65,16 @@ pub data Reduced : Row → Row → Type 0 where
   divides : {old new : Row} (quotients : Row) (factors : List Entry) → WithoutContent old quotients → FactorsOfLeast quotients factors
       → AllTakenOut polynomials (forms factors) quotients new → Reduced old new
 
--- the same for meanings
-pub record PolynomialsReduced (old new : List Meaning) : Type 0 where
+-- a relation of rows, for the lists of their meanings
+pub record OfRows (R : Row → Row → Type 0) (old new : List Meaning) : Type 0 where
   pub row : Row
   pub row_is : old ≡ meant row
   pub result : Row
   pub result_is : new ≡ meant result
-  pub reduced : Reduced row result
+  pub holds : R row result
+
+abbrev pub PolynomialsReduced : List Meaning → List Meaning → Type 0
+PolynomialsReduced old new = OfRows Reduced old new
 
 -- the steps of a long division
 abbrev pub DivisionOfPolynomials : Meaning → Meaning → Type 0

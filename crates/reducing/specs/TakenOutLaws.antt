@@ -96,11 +96,29 @@ module _ (a : Algebra) (l : Laws a) (d : DomainLaws a) where
       subst (λ k. raised_to W t k ≡ W.product (W.product (raised_to W t m) t) (raised_to W t (suc n))) e
       (ap (λ s. W.product s t) (raised_more t n m) ∙ l.ring.product_assoc (W.product (raised_to W t m) t) (raised_to W t n) t)
 
-  abbrev PowerOf : Passing a → ℕ → Row → Row → Type 0
+  -- the new row times a power of t is the old row
+  abbrev pub PowerOf : Passing a → ℕ → Row → Row → Type 0
   PowerOf t power old new = old ≡ scaled (raised_to W t power) new
 
+  pub power_is : (t : Passing a) (n : ℕ) (old new : Row) → bare a old ≡ times_row a (raised_to a.ops t.0 n) new → PowerOf t n old new
+  power_is t n old new e = scaled_is (raised_to W t n) old new (e ∙ ap (λ s. times_row a s new) (sym (raised_meant t n)))
+
+  pub is_power : (t : Passing a) (n : ℕ) (old new : Row) → PowerOf t n old new → bare a old ≡ times_row a (raised_to a.ops t.0 n) new
+  is_power t n old new e = is_scaled (raised_to W t n) old new e ∙ ap (λ s. times_row a s new) (raised_meant t n)
+
   pub power_of : (t : Passing a) (old new : Row) → (h : TakenOut a t.0 old new) → PowerOf t h.power old new
-  power_of t old new h = scaled_is (raised_to W t h.power) old new (h.times ∙ ap (λ s. times_row a s new) (sym (raised_meant t h.power)))
+  power_of t old new h = power_is t h.power old new h.times
+
+  pub no_power : (t : Passing a) (row : Row) → PowerOf t 0 row row
+  no_power t [] = refl
+  no_power t (x ∷ xs) = cc (sym (l.ring.product_comm x W.unit ∙ l.ring.unit_product x), no_power t xs)
+
+  pub power_more : (t : Passing a) (n : ℕ) (old between new : Row) → PowerOf t n old between → between ≡ scaled t new → PowerOf t (n + 1) old new
+  power_more t n old between new e f =
+      let s : suc n ≡ n + 1 = omega arith in
+      subst (λ k. PowerOf t k old new) s
+      (e ∙ ap (scaled (raised_to W t n)) f ∙ scaled_twice (raised_to W t n) t new
+      ∙ ap (λ r. scaled r new) (l.ring.product_comm t (raised_to W t n)))
 
   -- by a greater power less is left, so t divides what is left by the smaller one
   pub left_by_less : (t : Passing a) → ¬ (t ≡ W.nought) → (p q : ℕ) (old new other : Row) → suc p ≤ q → PowerOf t p old new → PowerOf t q old other
@@ -174,11 +192,7 @@ module _ (a : Algebra) (l : Laws a) (d : DomainLaws a) where
   }
 
   pub same_multiple : (row : Row) → Multiple row row
-  same_multiple row = record { factor = W.unit; not_zero = unit_not_nought; is = once row }
-    where
-      once : (xs : Row) → xs ≡ scaled W.unit xs
-      once [] = refl
-      once (x ∷ xs) = cc (sym (l.ring.product_comm x W.unit ∙ l.ring.unit_product x), once xs)
+  same_multiple row = record { factor = W.unit; not_zero = unit_not_nought; is = no_power W.unit row }
 
   pub all_taken_out_multiple : (ts : List Meaning) → AllByRecursion IsFactor ts → (old new : Row) → AllTakenOut a ts old new → Multiple old new
   all_taken_out_multiple [] f old new none = same_multiple old

@@ -7,6 +7,8 @@
 #![tactic(auto)]
 
 mod domains;
+mod factors_out;
+mod polynomial_rows;
 mod whole_rows;
 
 pub use domains::Reducing;
