@@ -1,5 +1,5 @@
 -- A polynomial whose coefficients are a number times those of another is that number times the other.
-use Rattle.std.proofs.Common.{◌≡◌, ℕ, zero, suc, ◌≤◌, ℤ, pos, ◌*ℤ◌, unsigned_abs, List, [], ◌∷◌, ◌++◌, map, length, refl, sym, ap, ◌∙◌, subst, arith, Result, Ok, Err, IfOk, IfErr}
+use Rattle.std.proofs.Common.{◌≡◌, ℕ, zero, suc, ◌≤◌, ℤ, ◌*ℤ◌, unsigned_abs, List, [], ◌∷◌, map, length, refl, sym, ap, ◌∙◌, subst, arith, Result, Ok, Err, IfOk, IfErr}
 use Rattle.std.proofs.lemmas.List.{length-map}
 use Rattle.std.proofs.lemmas.Simd.{map-map}
 use Rattle.ring_laws.specs.Meaning.{Meaning, number, listed, items, parted-joined}
@@ -15,7 +15,7 @@ use Rattle.poly_laws.proofs.Coefficients.{meanings_of, meanings_same, meanings-t
 use Rattle.poly_laws.proofs.ListLaws.{sum_nought, product_nought, times_comm, times_same_left, times_zero, times_suc}
 use Rattle.poly_laws.proofs.PolyLaws.{equal_coefficients, coefficient-product}
 use Rattle.poly_laws.proofs.Trimming.{at_trimmed, length-trimmed}
-use Rattle.poly_divide.specs.Content.{sizes_of, row_sizes, DividesAll}
+use Rattle.poly_divide.specs.Content.{sizes_of, DividesAll}
 use Rattle.whole_roots.specs.Differences.{polynomials}
 use Rattle.reducing.proofs.Polynomials.{Zn, sense, sense_passes}
 

@@ -1,7 +1,6 @@
 -- The polynomials in n of the code, as meanings that belong to their ring.
-use Rattle.std.proofs.Common.{◌≡◌, ◌≤◌, ℕ, IsTrue, List, [], ◌∷◌, map, refl, ap}
+use Rattle.std.proofs.Common.{◌≡◌, IsTrue, List, [], ◌∷◌, map, refl, ap}
 use Rattle.ring_laws.specs.Meaning.{Meaning, number, listed}
-use Rattle.ring_laws.specs.Algebra.{Passing}
 use Rattle.ring_laws.specs.Wholes.{whole_algebra}
 use Rattle.ring_laws.specs.declared.wholes.Whole.{Whole}
 use Rattle.ring_laws.specs.contracts.wholes.WholeRing.TheImpl.{ghosts}

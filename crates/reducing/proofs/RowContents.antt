@@ -1,6 +1,5 @@
 -- The content of a row of polynomials, and its quotients by it.
-use Rattle.std.proofs.Common.{◌≡◌, ℕ, zero, suc, ◌<◌, ◌^◌, List, [], ◌∷◌, ◌++◌, map, length, get_or, subst, sym, arith}
-use Rattle.ring_laws.specs.Meaning.{Meaning}
+use Rattle.std.proofs.Common.{◌≡◌, ℕ, zero, suc, ◌<◌, List, [], ◌∷◌, ◌++◌, length, get_or, subst, sym, arith}
 use Rattle.poly_divide.specs.Content.{sizes_of, row_sizes, DividesAll}
 use Rattle.reducing.proofs.Polynomials.{Zn, sense, senses}
 

@@ -1,9 +1,9 @@
 -- Taking a form out of a row of the code, and then each form of a list.
-use Rattle.std.proofs.Common.{◌≡◌, ◌≢◌, ℕ, zero, suc, ◌+◌, ◌≤◌, ◌<◌, ℤ, pos, IsTrue, List, [], ◌∷◌, ◌++◌, map, length, take, refl, sym, ap, ◌∙◌, subst, arith, Result, Ok, Err, Option, Some, None, Vec, IsErrAnd, slice_get}
+use Rattle.std.proofs.Common.{◌≡◌, ℕ, zero, suc, ◌+◌, ◌≤◌, ℤ, pos, List, [], ◌∷◌, map, length, take, refl, sym, ap, ◌∙◌, subst, arith, Result, Ok, Err, Some, Vec, IsErrAnd, slice_get}
 use Rattle.std.specs.List.{AllByRecursion}
-use Rattle.std.proofs.lemmas.List.{length-map, map_push, take_more, take_all}
+use Rattle.std.proofs.lemmas.List.{take_all}
 use Rattle.ring_laws.specs.Meaning.{Meaning}
-use Rattle.ring_laws.specs.Algebra.{Passing, same_passing}
+use Rattle.ring_laws.specs.Algebra.{Passing}
 use Rattle.ring_laws.specs.Answer.{OnFault, fault_weaker}
 use Rattle.ring_laws.specs.declared.faults.RingFault.{RingFault}
 use Rattle.poly_laws.proofs.Coefficients.{meanings_same}
@@ -13,11 +13,11 @@ use Rattle.whole_roots.specs.LinearFactors.{Entry}
 use Rattle.kernel_laws.specs.RowSteps.{QuotientsInBounds}
 use Rattle.reducing.specs.RowAnswer.{GivesRow}
 use Rattle.reducing.specs.TakenOut.{raised_to, times_row, TakenOut, AllTakenOut, none, next, TakingOutInBounds, AllTakingOutInBounds}
-use Rattle.reducing.specs.TakenOutLaws.{scaled, scaled_is, is_scaled, scaled_twice, PowerOf, power_is, is_power, no_power, power_more, IsFactor, Multiple, all_taken_out_multiple}
+use Rattle.reducing.specs.TakenOutLaws.{scaled, scaled_is, scaled_twice, PowerOf, power_is, is_power, no_power, power_more, IsFactor, Multiple, all_taken_out_multiple}
 use Rattle.reducing.specs.PolynomialRows.{Row, meant, OfRows, forms, DivisionOfPolynomials}
 use Rattle.reducing.specs.PolynomialLaws.{laws, domain, P, linear_is_factor}
 use Rattle.reducing.specs.PolynomialAnswers.{IsMost, FactorInBounds, FactorsOfRowInBounds}
-use Rattle.reducing.proofs.Polynomials.{Zn, sense, sense_passes, senses, row_of, row_meant}
+use Rattle.reducing.proofs.Polynomials.{Zn, sense, senses, row_of, row_meant}
 
 same_rows : (x y : Row) → meant x ≡ meant y → x ≡ y
 same_rows x y e = meanings_same polynomials laws.closed x y e

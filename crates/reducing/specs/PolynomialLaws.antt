@@ -1,31 +1,29 @@
 -- Reducing rows of polynomials keeps what a reduction has to give, and gives one row; and so for the parts of a polynomial.
 -- These are lemmas: they stand here, and not in proofs/, since the ring of polynomials as `Reducing` names the last of them.
-use Rattle.std.specs.Prelude.{◌≡◌, ℕ, zero, suc, ◌<◌, ◌≤◌, ℤ, pos, negsuc, neg_ℤ, ◌<ℤ◌, ◌⊎◌, List, [], ◌∷◌, map, length, IsTrue, IsFalse, refl}
+use Rattle.std.specs.Prelude.{◌≡◌, ℕ, zero, suc, ◌≤◌, ℤ, pos, List, [], ◌∷◌, refl}
 use Rattle.std.specs.List.{AllByRecursion}
 use Rattle.std.proofs.Common.{ap, sym, ◌∙◌, subst, arith, ⊎_elim, inl, inr}
 use Rattle.std.proofs.lemmas.Bool.{cases_lt}
 use Rattle.std.proofs.lemmas.Int.{ints}
-use Rattle.std.proofs.lemmas.List.{length-map}
-use Rattle.ring_laws.specs.Meaning.{Meaning, number, items}
-use Rattle.ring_laws.specs.Algebra.{Ops, Passing, within, Laws, same_passing}
+use Rattle.ring_laws.specs.Meaning.{Meaning}
+use Rattle.ring_laws.specs.Algebra.{Ops, Passing, within, Laws}
 use Rattle.ring_laws.specs.Division.{DomainLaws}
 use Rattle.ring_laws.specs.Wholes.{whole_algebra}
 use Rattle.ring_laws.specs.WholeLaws.{whole_laws}
 use Rattle.ring_laws.specs.WholeDomain.{whole_domain}
 use Rattle.poly_laws.proofs.Coefficients.{meanings_same}
-use Rattle.poly_laws.proofs.ListLaws.{nought_product}
 use Rattle.poly_laws.proofs.PolyDomain.{poly_domain}
 use Rattle.poly_laws.proofs.PolyMagnitudes.{poly_laws}
-use Rattle.poly_divide.specs.Content.{row_sizes, IsContent}
+use Rattle.poly_divide.specs.Content.{row_sizes}
 use Rattle.poly_divide.specs.Forms.{linear}
 use Rattle.whole_roots.specs.Differences.{polynomials}
 use Rattle.whole_roots.specs.LinearFactors.{Entry, AreLinearFactors, IsLinearFactor, IsProfileForm, PowerDivides, IsBefore, IsRisingByForm, HasForm, form_power}
 use Rattle.kernel_laws.specs.Rows.{entry_at}
-use Rattle.kernel_laws.specs.Reduction.{Reduces, Splits, ReductionLaws, bare}
+use Rattle.kernel_laws.specs.Reduction.{Reduces}
 use Rattle.reducing.specs.WholeLaws.{one_content}
-use Rattle.reducing.specs.TakenOut.{raised_to, times_row, AllTakenOut}
-use Rattle.reducing.specs.TakenOutLaws.{scaled, scaled_is, raised_meant, cancel_row, cancel_factor, IsFactor, Multiple, multiple_twice, same_multiple, multiple_reduces, one_all_taken_out, all_taken_out_multiple}
-use Rattle.reducing.specs.PolynomialRows.{Row, meant, IsLeast, WithoutContent, FactorsOfLeast, forms, Reduced, stays, divides, PolynomialsReduced, lead_number, IsCore, PolynomialSplit, polynomial_reduction}
+use Rattle.reducing.specs.TakenOut.{raised_to, AllTakenOut}
+use Rattle.reducing.specs.TakenOutLaws.{scaled, scaled_is, raised_meant, cancel_row, IsFactor, Multiple, multiple_twice, same_multiple, multiple_reduces, one_all_taken_out, all_taken_out_multiple}
+use Rattle.reducing.specs.PolynomialRows.{Row, meant, IsLeast, WithoutContent, FactorsOfLeast, forms, Reduced, stays, divides, PolynomialsReduced}
 
 abbrev pub laws : Laws polynomials
 laws = poly_laws whole_algebra whole_laws

@@ -1,14 +1,14 @@
 -- The parts of a polynomial are one plain part and one core, whose product it is.
 -- These are lemmas: they stand here, and not in proofs/, since the ring of polynomials as `Reducing` names the last of them.
-use Rattle.std.specs.Prelude.{◌≡◌, ℕ, zero, suc, ◌-◌, ℤ, pos, negsuc, neg_ℤ, ◌<ℤ◌, not, ◌⊎◌, List, [], ◌∷◌, map, length, IsTrue, refl}
-use Rattle.std.proofs.Common.{ap, sym, ◌∙◌, subst, arith, ⊎_elim, inl, inr}
+use Rattle.std.specs.Prelude.{◌≡◌, ℕ, zero, suc, ◌-◌, ℤ, pos, negsuc, neg_ℤ, ◌<ℤ◌, not, List, [], ◌∷◌, map, length, IsTrue, refl}
+use Rattle.std.proofs.Common.{ap, sym, ◌∙◌, subst, arith, ⊎_elim}
 use Rattle.std.proofs.lemmas.Int.{ints}
 use Rattle.std.proofs.lemmas.List.{length-map}
-use Rattle.ring_laws.specs.Meaning.{Meaning, number, listed, items, parted-joined}
+use Rattle.ring_laws.specs.Meaning.{Meaning, items, parted-joined}
 use Rattle.ring_laws.specs.Algebra.{Passing, same_passing}
 use Rattle.ring_laws.specs.Wholes.{number_of, is_zero, whole_algebra}
 use Rattle.poly_laws.specs.Lists.{coefficient_at, trimmed, is_trimmed}
-use Rattle.poly_laws.proofs.Coefficients.{coefficients_trimmed, meanings-is_trimmed, meanings-coefficients, coefficients, meanings_of}
+use Rattle.poly_laws.proofs.Coefficients.{coefficients_trimmed, meanings-is_trimmed, meanings-coefficients, coefficients}
 use Rattle.poly_laws.proofs.Trimming.{trimmed_already}
 use Rattle.ring_laws.specs.WholeLaws.{whole_laws}
 use Rattle.whole_roots.specs.Differences.{polynomials}

@@ -1,6 +1,6 @@
 -- Taking factors out of a row leaves one row, which times something that isn't zero is the old row.
 -- These are lemmas: they stand here, and not in proofs/, since the ring of polynomials as `Reducing` names what rests on them.
-use Rattle.std.specs.Prelude.{◌≡◌, ℕ, zero, suc, ◌+◌, ◌-◌, ◌≤◌, pos, ◌⊎◌, List, [], ◌∷◌, map, length, IsTrue, refl}
+use Rattle.std.specs.Prelude.{◌≡◌, ℕ, zero, suc, ◌+◌, ◌-◌, ◌≤◌, pos, List, [], ◌∷◌, map, length, IsTrue, refl}
 use Rattle.std.specs.List.{AllByRecursion}
 use Rattle.std.proofs.Common.{ap, sym, ◌∙◌, subst, arith, ⊎_elim}
 use Rattle.std.proofs.lemmas.Bool.{cases_lt}

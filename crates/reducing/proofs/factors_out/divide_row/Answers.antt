@@ -1,4 +1,4 @@
-use Rattle.std.specs.Prelude.{pos, ℤ, ◌≡◌}
+use Rattle.std.specs.Prelude.{pos}
 use Rattle.std.specs.Int.{w128}
 use Rattle.std.proofs.Common.{Ok, subst, take, arith}
 use Rattle.std.proofs.lemmas.Int.{to_z-of_z}

@@ -1,6 +1,6 @@
-use Rattle.std.specs.Prelude.{pos, ◌≡◌, ◌<◌, ◌^◌, unsigned_abs, Some}
+use Rattle.std.specs.Prelude.{pos}
 use Rattle.std.specs.Int.{w128}
-use Rattle.std.proofs.Common.{subst, sym, ◌∙◌, ap, arith, to_z, of_z}
+use Rattle.std.proofs.Common.{subst, sym, ◌∙◌, arith}
 use Rattle.std.proofs.lemmas.Int.{ints, to_z-of_z, fits_signed_from_abs}
 use Rattle.poly_divide.specs.Forms.{linear}
 use Rattle.whole_roots.specs.Differences.{polynomials}

@@ -1,10 +1,9 @@
 use Rattle.std.proofs.Common.{◌<◌, length, subst, arith}
-use Rattle.ring_laws.specs.Wholes.{whole_algebra}
 use Rattle.whole_roots.specs.Differences.{polynomials}
 use Rattle.poly_generic.proofs.ListLemmas.{at_item}
 use Rattle.reducing.specs.PolynomialAnswers.{LeastOf}
 use Rattle.reducing.proofs.Polynomials.{sense, senses}
-use Rattle.reducing.proofs.LeastEntries.{refused, least_zero, least_next, least_stays, least_first}
+use Rattle.reducing.proofs.LeastEntries.{refused, least_zero, least_next, least_stays}
 use Rattle.reducing.proofs.polynomial_rows.lesser.Goals as goal
 
 pub returns-then-is_zero : goal.returns-then-is_zero
