@@ -6,3 +6,4 @@ mod RowQuotients
 mod ContentQuotients
 mod WithoutFactors
 mod RowContents
+mod ReducedRows

@@ -29,7 +29,7 @@ row_is row x e = same_rows x (row_of row) (sym e ∙ row_meant row)
 abbrev pub IsLeft : Meaning → ℕ → List Zn → List Zn → Type 0
 IsLeft t power row rest = senses row ≡ times_row polynomials (raised_to polynomials.ops t power) (row_of rest)
 
-products_are : (t : Meaning) (quotients : List Zn)
+pub products_are : (t : Meaning) (quotients : List Zn)
     → map (λ q. polynomials.ops.product (sense q) t) quotients ≡ times_row polynomials t (row_of quotients)
 products_are t [] = refl
 products_are t (q ∷ qs) = ap (λ s. polynomials.ops.product (sense q) t ∷ s) (products_are t qs)

@@ -1,5 +1,5 @@
 -- What the calls on rows of polynomials answer.
-use Rattle.std.specs.Prelude.{◌≡◌, ℕ, ◌+◌, ◌<◌, List, map, Result, Ok, Err, Option, Some, None, Vec, IsTrue}
+use Rattle.std.specs.Prelude.{◌⊎◌, pos, ◌<ℤ◌, [], ◌∷◌, ◌≡◌, ℕ, ◌+◌, ◌<◌, List, map, Result, Ok, Err, Option, Some, None, Vec, IsTrue}
 use Rattle.ring_laws.specs.Meaning.{Meaning}
 use Rattle.ring_laws.specs.Answer.{OnFault}
 use Rattle.ring_laws.specs.declared.faults.RingFault.{RingFault}
@@ -8,7 +8,7 @@ use Rattle.whole_roots.specs.LinearFactors.{Entry}
 use Rattle.kernel_laws.specs.Rows.{entry_at}
 use Rattle.kernel_laws.specs.RowSteps.{QuotientsInBounds}
 use Rattle.reducing.specs.TakenOut.{raised_to, times_row, TakingOutInBounds, AllTakingOutInBounds}
-use Rattle.reducing.specs.PolynomialRows.{Row, meant, IsLeastOf, forms, DivisionOfPolynomials}
+use Rattle.reducing.specs.PolynomialRows.{Row, meant, IsLeastOf, forms, DivisionOfPolynomials, PolynomialsInBounds, IsCore, lead_number}
 
 -- the least of the first n entries, or none where each of them is zero
 abbrev pub LeastOf : List Meaning → ℕ → Option ℕ → Type 0
@@ -31,3 +31,13 @@ FactorInBounds t old = (row : Row) → old ≡ meant row → TakingOutInBounds D
 
 abbrev pub FactorsOfRowInBounds : List Entry → List Meaning → Type 0
 FactorsOfRowInBounds entries old = (row : Row) → old ≡ meant row → AllTakingOutInBounds DivisionOfPolynomials polynomials (forms entries) row
+
+-- the core of x; `TooLarge` only where a step of reducing it is not in bounds
+abbrev pub GivesCore : {T : Type 0} → (T → Meaning) → Meaning → Result T RingFault → Type 0
+GivesCore meaning x (Ok core) = IsCore x (meaning core)
+GivesCore meaning x (Err fault) = OnFault (¬ (PolynomialsInBounds (x ∷ []))) fault
+
+-- f or its negative, whose lead is positive where f isn't zero
+pub record HasPositiveLead (f result : Meaning) : Type 0 where
+  pub is : (result ≡ f) ⊎ (result ≡ polynomials.ops.neg f)
+  pub positive : ¬ (f ≡ polynomials.ops.nought) → pos 0 <ℤ lead_number result
