@@ -7,3 +7,4 @@ mod ContentQuotients
 mod WithoutFactors
 mod RowContents
 mod ReducedRows
+mod Cores

@@ -1,26 +1,26 @@
 -- The row of the code, reduced: its content is taken out, and then the linear factors of the first entry of least degree.
 use Rattle.std.specs.Prelude.{◌≢◌, unsigned_abs}
 use Rattle.std.specs.List.{AllByRecursion}
-use Rattle.std.proofs.Common.{◌≡◌, ℕ, zero, suc, ◌+◌, ◌<◌, ◌≤◌, ℤ, pos, ◌≤ℤ◌, List, [], ◌∷◌, map, length, get_or, refl, ap, ◌∙◌, subst, sym, arith, Result, Ok, Err, Vec, Option, Some, None}
+use Rattle.std.proofs.Common.{◌≡◌, ℕ, zero, suc, ◌+◌, ◌<◌, ◌≤◌, ℤ, pos, ◌≤ℤ◌, List, [], ◌∷◌, map, length, get_or, refl, ap, ◌∙◌, subst, sym, arith, Result, Ok, Err, Vec, Option, Some}
 use Rattle.std.proofs.lemmas.Int.{ints}
 use Rattle.std.proofs.lemmas.List.{length-map}
 use Rattle.ring_laws.specs.Meaning.{Meaning}
-use Rattle.ring_laws.specs.Algebra.{Algebra, Passing}
+use Rattle.ring_laws.specs.Algebra.{Passing}
 use Rattle.ring_laws.specs.Answer.{OnFault, fault_weaker}
 use Rattle.ring_laws.specs.declared.faults.RingFault.{RingFault}
 use Rattle.poly_divide.specs.Content.{row_sizes, IsContent}
 use Rattle.poly_divide.specs.Forms.{linear}
 use Rattle.poly_generic.proofs.ListLemmas.{at_item}
 use Rattle.whole_roots.specs.Differences.{polynomials}
-use Rattle.whole_roots.specs.LinearFactors.{Entry, AreLinearFactors, IsLinearFactor, PowerDivides, form_power}
+use Rattle.whole_roots.specs.LinearFactors.{Entry, AreLinearFactors, IsLinearFactor, form_power}
 use Rattle.whole_roots.specs.FactorBounds.{FactorsInBounds}
 use Rattle.kernel_laws.specs.Rows.{entry_at}
 use Rattle.reducing.specs.RowAnswer.{GivesRow}
 use Rattle.reducing.specs.TakenOut.{raised_to, times_row, AllTakenOut, AllTakingOutInBounds}
-use Rattle.reducing.specs.PolynomialRows.{Row, meant, IsLeast, IsLeastOf, WithoutContent, FactorsOfLeast, forms, Reduced, stays, divides, OfRows, PolynomialsReduced, PolynomialsInBounds, DivisionOfPolynomials}
+use Rattle.reducing.specs.PolynomialRows.{Row, meant, IsLeast, IsLeastOf, WithoutContent, FactorsOfLeast, forms, stays, divides, OfRows, PolynomialsReduced, PolynomialsInBounds, DivisionOfPolynomials}
 use Rattle.reducing.specs.PolynomialLaws.{P, form_power_is}
 use Rattle.reducing.specs.PolynomialAnswers.{LeastOf, IsMost, FactorsOfRowInBounds}
-use Rattle.reducing.proofs.Polynomials.{Zn, sense, sense_passes, senses, row_of, row_meant}
+use Rattle.reducing.proofs.Polynomials.{Zn, sense, senses, row_of, row_meant}
 use Rattle.reducing.proofs.WithoutFactors.{row_is, products_are}
 
 -- a row of zeros

@@ -136,7 +136,7 @@ content_multiple old quotients h = record {
   is = scaled_is polynomials laws domain (P.whole (pos h.content)) old quotients h.times;
 }
 
-multiple : (old new : Row) → Reduced old new → IsMultiple old new
+pub multiple : (old new : Row) → Reduced old new → IsMultiple old new
 multiple old new (stays h) = same_multiple polynomials laws domain old
 multiple old new (divides quotients factors w f t) =
     multiple_twice polynomials laws domain old quotients new (content_multiple old quotients w)

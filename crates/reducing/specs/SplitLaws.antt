@@ -52,7 +52,7 @@ lead_negative f =
     ∙ ap (λ n. number_of (coefficient_at whole_algebra.ops (negatives (items f.0)) (n - 1))) (length-map (items f.0) whole_algebra.ops.neg)
     ∙ coefficient_negative (items f.0) (degree f.0)
 
-lead_of_zero : (f : Meaning) → f ≡ polynomials.ops.nought → ¬ (pos 0 <ℤ lead_number f)
+pub lead_of_zero : (f : Meaning) → f ≡ polynomials.ops.nought → ¬ (pos 0 <ℤ lead_number f)
 lead_of_zero f e h = omega (arith, ints, h, ap lead_number e)
 
 -- ---- the parts

@@ -1,9 +1,8 @@
-use Rattle.std.specs.Prelude.{◌≡◌, ◌≢◌, ◌<◌, pos, unsigned_abs, map, length, IfOk, Some}
-use Rattle.std.proofs.Common.{arith, subst, sym, ap, ◌∙◌, Ok}
+use Rattle.std.specs.Prelude.{◌≡◌, ◌≢◌, pos, unsigned_abs, length}
+use Rattle.std.proofs.Common.{arith, subst, sym}
 use Rattle.std.proofs.lemmas.Int.{ints}
 use Rattle.ring_laws.specs.Answer.{OnFault}
 use Rattle.poly_divide.specs.Content.{row_sizes, IsContent}
-use Rattle.poly_generic.proofs.ListLemmas.{at_item}
 use Rattle.whole_roots.specs.Differences.{polynomials}
 use Rattle.whole_roots.specs.LinearFactors.{AreLinearFactors}
 use Rattle.whole_roots.specs.FactorBounds.{FactorsInBounds}

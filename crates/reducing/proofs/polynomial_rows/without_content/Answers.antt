@@ -1,5 +1,5 @@
 use Rattle.std.specs.Prelude.{◌≡◌, pos, map}
-use Rattle.std.proofs.Common.{subst, sym, arith}
+use Rattle.std.proofs.Common.{subst, arith}
 use Rattle.std.proofs.lemmas.Int.{ints}
 use Rattle.whole_roots.specs.Differences.{polynomials}
 use Rattle.reducing.proofs.Polynomials.{sense, senses}
