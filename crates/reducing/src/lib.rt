@@ -8,7 +8,9 @@
 
 mod domains;
 mod factors_out;
+mod least_entries;
 mod polynomial_rows;
+mod row_contents;
 mod whole_rows;
 
 pub use domains::Reducing;

@@ -4,7 +4,7 @@ use Rattle.std.proofs.lemmas.Int.{ints}
 use Rattle.whole_roots.specs.Differences.{polynomials}
 use Rattle.reducing.proofs.Polynomials.{sense, senses}
 use Rattle.reducing.proofs.RowContents.{once}
-use Rattle.reducing.proofs.polynomial_rows.without_content.Goals as goal
+use Rattle.reducing.proofs.row_contents.without_content.Goals as goal
 
 -- the quotients by 1 are the row
 pub returns-then-value-eq1-clause-quotients : goal.returns-then-value-eq1-clause-quotients

@@ -4,7 +4,7 @@ use Rattle.poly_generic.proofs.ListLemmas.{at_item}
 use Rattle.reducing.specs.PolynomialAnswers.{LeastOf}
 use Rattle.reducing.proofs.Polynomials.{sense, senses}
 use Rattle.reducing.proofs.LeastEntries.{refused, least_zero, least_next, least_stays}
-use Rattle.reducing.proofs.polynomial_rows.lesser.Goals as goal
+use Rattle.reducing.proofs.least_entries.lesser.Goals as goal
 
 pub returns-then-is_zero : goal.returns-then-is_zero
 returns-then-is_zero c = record {

@@ -1,6 +1,6 @@
 use Rattle.std.specs.Prelude.{unsigned_abs}
 use Rattle.reducing.proofs.RowContents.{divides_entry}
-use Rattle.reducing.proofs.polynomial_rows.quotients_by.Goals as goal
+use Rattle.reducing.proofs.row_contents.quotients_by.Goals as goal
 
 pub quotient_by-requires-clause-divides : goal.quotient_by-requires-clause-divides
 quotient_by-requires-clause-divides c =

@@ -1,6 +1,6 @@
 use Rattle.std.specs.Prelude.{unsigned_abs}
 use Rattle.reducing.proofs.ContentQuotients.{quotient_is, quotient_fits, divides_numbers}
-use Rattle.reducing.proofs.polynomial_rows.quotient_by.Goals as goal
+use Rattle.reducing.proofs.row_contents.quotient_by.Goals as goal
 
 pub divided-requires-clause-divides : goal.divided-requires-clause-divides
 divided-requires-clause-divides c =

@@ -5,7 +5,7 @@ use Rattle.poly_divide.specs.Content.{row_sizes, IsContent}
 use Rattle.reducing.proofs.Divisors.{some_whole, whole_is}
 use Rattle.reducing.proofs.Polynomials.{senses}
 use Rattle.reducing.proofs.RowContents.{content_below}
-use Rattle.reducing.proofs.polynomial_rows.content_of.Goals as goal
+use Rattle.reducing.proofs.row_contents.content_of.Goals as goal
 
 pub overflow_cast-whole_content : goal.overflow_cast-whole_content
 overflow_cast-whole_content c =
