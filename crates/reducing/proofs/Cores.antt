@@ -1,61 +1,26 @@
 -- The core of a polynomial: what is left of the row that has it alone, with the sign that makes its lead positive.
 use Rattle.std.specs.Option.{IsSome}
-use Rattle.std.proofs.Common.{◌≡◌, zero, suc, ◌-◌, ℤ, pos, negsuc, ◌<ℤ◌, Bool, true, false, not, IsTrue, IsFalse, List, [], ◌∷◌, ◌++◌, map, length, get_or, refl, ap, ◌∙◌, subst, sym, arith, inl, inr, ⊎_elim, Result, Ok, Err, IfOk, IfErr, Option, Some, None, IsErrAnd}
-use Rattle.std.proofs.lemmas.Int.{ints}
+use Rattle.std.proofs.Common.{◌≡◌, Bool, true, false, IsFalse, List, [], ◌∷◌, ◌++◌, length, get_or, refl, ap, ◌∙◌, subst, sym, arith, ⊎_elim, Result, Ok, Err, IfOk, IfErr, Option, Some, None, IsErrAnd}
 use Rattle.std.proofs.lemmas.List.{length-map}
 use Rattle.ring_solver.proofs.Read.{reading, ring}
-use Rattle.ring_laws.specs.Meaning.{Meaning, number, listed, parted-joined}
+use Rattle.ring_laws.specs.Meaning.{Meaning}
 use Rattle.ring_laws.specs.Algebra.{Passing, same_passing}
-use Rattle.ring_laws.specs.Answer.{OnFault, Gives, fault_weaker, fault_memory}
+use Rattle.ring_laws.specs.Answer.{OnFault, fault_weaker, fault_memory}
 use Rattle.ring_laws.specs.Division.{Divides}
-use Rattle.ring_laws.specs.Wholes.{number_of, is_zero, whole_algebra}
 use Rattle.ring_laws.specs.declared.faults.RingFault.{RingFault}
 use Rattle.ring_laws.specs.declared.faults.RingFault.TheVariants.{Memory}
-use Rattle.poly_laws.specs.Lists.{coefficient_at, is_trimmed}
 use Rattle.poly_laws.proofs.ListLaws.{nought_product}
 use Rattle.whole_roots.specs.Differences.{polynomials}
 use Rattle.kernel_laws.proofs.Rings.{solvable}
 use Rattle.reducing.specs.RowAnswer.{GivesParts}
 use Rattle.reducing.specs.TakenOutLaws.{Multiple}
-use Rattle.reducing.specs.PolynomialRows.{Row, meant, Reduced, PolynomialsReduced, PolynomialsInBounds, lead_number, IsCore, PolynomialSplit, DivisionOfPolynomials, SplittingInBounds}
-use Rattle.reducing.specs.PolynomialLaws.{laws, domain, P, multiple, polynomials_reduce}
-use Rattle.reducing.specs.SplitLaws.{lead_negative, lead_of_zero}
+use Rattle.reducing.specs.PolynomialRows.{Row, meant, Reduced, PolynomialsReduced, PolynomialsInBounds, IsCore, PolynomialSplit, DivisionOfPolynomials, SplittingInBounds}
+use Rattle.reducing.specs.FactorLists.{laws, domain, P}
+use Rattle.reducing.specs.PolynomialLaws.{multiple, polynomials_reduce}
+use Rattle.reducing.specs.SplitLaws.{lead_of_zero}
 use Rattle.reducing.specs.PolynomialAnswers.{HasPositiveLead, GivesCore}
 use Rattle.reducing.proofs.Polynomials.{Zn, sense, sense_passes, senses}
-use Rattle.reducing.proofs.WithoutFactors.{row_is}
-
--- ---- the lead
-zero_isnt : (m : Meaning) → IsTrue (not (is_zero (number_of m))) → ¬ (number_of m ≡ pos 0)
-zero_isnt m h e = cc (h, ap is_zero e)
-
-last_nonzero : (ms : List Meaning) → IsTrue (is_trimmed whole_algebra.ops ms) → ¬ (ms ≡ [])
-    → ¬ (number_of (coefficient_at whole_algebra.ops ms (length ms - 1)) ≡ pos 0)
-last_nonzero [] h n e = n refl
-last_nonzero (m ∷ []) h n e = zero_isnt m h e
-last_nonzero (m ∷ k ∷ ks) h n e =
-    let s : length (m ∷ k ∷ ks) - 1 ≡ suc (length (k ∷ ks) - 1) = omega arith in
-    last_nonzero (k ∷ ks) h (λ t. cc) (ap (λ i. number_of (coefficient_at whole_algebra.ops (m ∷ k ∷ ks) i)) (sym s) ∙ e)
-
-lead_isnt : (f : Zn) → ¬ (sense f ≡ polynomials.ops.nought) → ¬ (lead_number (sense f) ≡ pos 0)
-lead_isnt f n e =
-    last_nonzero (map (λ w. number w.value) f.list.items) f.ended (λ t. n (ap listed t))
-    (sym (ap (λ ms. number_of (coefficient_at whole_algebra.ops ms (length ms - 1))) (parted-joined (map (λ w. number w.value) f.list.items))) ∙ e)
-
-pub lead_of_negative : (f : Zn) (r : Result Zn RingFault) → Gives sense (polynomials.ops.neg (sense f)) r → lead_number (sense f) <ℤ pos 0
-    → IfOk r (λ out. HasPositiveLead (sense f) (sense out))
-lead_of_negative f (Ok out) g h = record {
-  is = inr g;
-  positive = λ n. omega (arith, ints, h, ap lead_number g, lead_negative (sense f, sense_passes f));
-}
-lead_of_negative f (Err fault) g h = tt
-
-pub lead_as_it_is : (f : Zn) → ¬ (lead_number (sense f) <ℤ pos 0) → HasPositiveLead (sense f) (sense f)
-lead_as_it_is f h = record { is = inl refl; positive = λ n. above (lead_number (sense f)) h (lead_isnt f n) }
-  where
-    above : (z : ℤ) → ¬ (z <ℤ pos 0) → ¬ (z ≡ pos 0) → pos 0 <ℤ z
-    above (pos zero) p q = absurd (q refl)
-    above (pos (suc n)) p q = omega (arith, ints)
-    above (negsuc n) p q = absurd (p (omega (arith, ints)))
+use Rattle.reducing.proofs.WithoutFactor.{row_is}
 
 -- ---- what is left of a single polynomial
 pub alone : (x : Meaning) (row before : List Zn) (copy : Zn) → row ≡ before ++ copy ∷ [] → before ≡ [] → sense copy ≡ x → senses row ≡ x ∷ []

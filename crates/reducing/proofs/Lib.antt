@@ -4,7 +4,9 @@ mod Polynomials
 mod LeastEntries
 mod RowQuotients
 mod ContentQuotients
+mod WithoutFactor
 mod WithoutFactors
 mod RowContents
 mod ReducedRows
+mod Leads
 mod Cores

@@ -4,6 +4,7 @@ pub mod WholeLaws
 pub mod TakenOut
 pub mod TakenOutLaws
 pub mod PolynomialRows
+pub mod FactorLists
 pub mod PolynomialLaws
 pub mod SplitLaws
 pub mod PolynomialAnswers

@@ -15,7 +15,8 @@ use Rattle.whole_roots.specs.Differences.{polynomials}
 use Rattle.kernel_laws.specs.Reduction.{Splits, ReductionLaws}
 use Rattle.reducing.specs.TakenOutLaws.{cancel_factor}
 use Rattle.reducing.specs.PolynomialRows.{Reduced, degree, lead_number, IsCore, PolynomialSplit, polynomial_reduction}
-use Rattle.reducing.specs.PolynomialLaws.{laws, domain, P, one_reduced, polynomials_reduce, one_row}
+use Rattle.reducing.specs.FactorLists.{laws, domain, P}
+use Rattle.reducing.specs.PolynomialLaws.{one_reduced, polynomials_reduce, one_row}
 
 -- ---- the coefficients of the negative
 zero_negative : (z : ℤ) → is_zero (neg_ℤ z) ≡ is_zero z

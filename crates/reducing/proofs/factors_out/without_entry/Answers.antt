@@ -10,7 +10,7 @@ use Rattle.reducing.specs.TakenOut.{TakenOut}
 use Rattle.reducing.specs.PolynomialRows.{OfRows}
 use Rattle.reducing.specs.PolynomialAnswers.{IsMost, FactorInBounds}
 use Rattle.reducing.proofs.Polynomials.{sense, senses}
-use Rattle.reducing.proofs.WithoutFactors.{same_some}
+use Rattle.reducing.proofs.WithoutFactor.{same_some}
 use Rattle.reducing.proofs.factors_out.without_entry.Goals as goal
 
 pub without_factor-requires-clause-offset : goal.without_factor-requires-clause-offset

@@ -10,7 +10,7 @@ use Rattle.reducing.specs.TakenOut.{TakenOut}
 use Rattle.reducing.specs.PolynomialRows.{OfRows, DivisionOfPolynomials}
 use Rattle.reducing.specs.PolynomialAnswers.{DividesEach, FactorInBounds}
 use Rattle.reducing.proofs.Polynomials.{sense, senses}
-use Rattle.reducing.proofs.WithoutFactors.{IsLeft, left_first, left_more, taken_out, most_taken, fault_left, fault_row}
+use Rattle.reducing.proofs.WithoutFactor.{IsLeft, left_first, left_more, taken_out, most_taken, fault_left, fault_row}
 use Rattle.reducing.proofs.factors_out.without_factor.Goals as goal
 
 pub loop-time-init : goal.loop-time-init

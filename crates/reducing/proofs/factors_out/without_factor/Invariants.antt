@@ -1,6 +1,6 @@
 use Rattle.std.specs.Prelude.{pos, ◌≤◌}
 use Rattle.poly_divide.specs.Forms.{linear}
-use Rattle.reducing.proofs.WithoutFactors.{IsLeft}
+use Rattle.reducing.proofs.WithoutFactor.{IsLeft}
 use Rattle.reducing.proofs.factors_out.without_factor.Given as goal
 
 -- the row is what is left times a power of the form

@@ -8,7 +8,8 @@ use Rattle.reducing.specs.TakenOut.{AllTakenOut}
 use Rattle.reducing.specs.PolynomialRows.{OfRows, forms}
 use Rattle.reducing.specs.PolynomialAnswers.{IsMost, FactorsOfRowInBounds}
 use Rattle.reducing.proofs.Polynomials.{senses}
-use Rattle.reducing.proofs.WithoutFactors.{all_at, none_taken, taken_next, most_after, fault_after, all_are_taken, fault_row}
+use Rattle.reducing.proofs.WithoutFactor.{fault_row}
+use Rattle.reducing.proofs.WithoutFactors.{all_at, none_taken, taken_next, most_after, fault_after, all_are_taken}
 use Rattle.reducing.proofs.factors_out.without_factors.Goals as goal
 
 pub loop-index-init : goal.loop-index-init

@@ -10,7 +10,7 @@ use Rattle.kernel_laws.specs.Rows.{entry_at}
 use Rattle.reducing.specs.PolynomialRows.{IsLeast, PolynomialsReduced, PolynomialsInBounds}
 use Rattle.reducing.specs.PolynomialAnswers.{LeastOf}
 use Rattle.reducing.proofs.Polynomials.{sense, senses}
-use Rattle.reducing.proofs.WithoutFactors.{fault_row}
+use Rattle.reducing.proofs.WithoutFactor.{fault_row}
 use Rattle.reducing.proofs.RowContents.{some_quotient}
 use Rattle.reducing.proofs.ReducedRows.{least_is, entry_is, place_within, row_stays, each_most, each_slope, factoring_fault, reduced_row}
 use Rattle.reducing.proofs.polynomial_rows.reduced.Goals as goal

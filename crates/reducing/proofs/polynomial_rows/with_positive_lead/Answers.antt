@@ -1,5 +1,5 @@
 use Rattle.reducing.proofs.LeastEntries.{refused}
-use Rattle.reducing.proofs.Cores.{lead_of_negative, lead_as_it_is}
+use Rattle.reducing.proofs.Leads.{lead_of_negative, lead_as_it_is}
 use Rattle.reducing.proofs.polynomial_rows.with_positive_lead.Goals as goal
 
 pub returns-then-is_lead_negative-clause-lead : goal.returns-then-is_lead_negative-clause-lead
