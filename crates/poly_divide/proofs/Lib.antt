@@ -1,4 +1,4 @@
 pub mod Contents
 mod FormMeanings
-mod CommonFactors
+pub mod CommonFactors
 mod KnownForms

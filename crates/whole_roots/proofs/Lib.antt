@@ -9,4 +9,10 @@ mod DifferenceLaws
 mod DifferenceBounds
 mod Faults
 mod RootBounds
+mod FormPowers
+mod FactorLists
+mod FactorRoots
+mod FactorSteps
+mod FormLengths
+mod Stretching
 mod KnownRoots

@@ -39,6 +39,13 @@ root_small z (w ∷ []) t n e =
 root_small z (w ∷ v ∷ list) t n e =
     root_step z w.value (horner (λ (w : Whole). w.value) z (v ∷ list)) w.small e (root_small z (v ∷ list) t (λ h. cc))
 
+pub root_within : (list : List Whole) → IsTrue (is_trimmed whole_algebra.ops (map (λ (w : Whole). number w.value) list))
+    → ¬ (listed (map (λ (w : Whole). number w.value) list) ≡ listed []) → (z : ℤ) → IsRoot (listed (map (λ (w : Whole). number w.value) list)) z
+    → unsigned_abs z < 2 ^ 127
+root_within list t n z root =
+    root_small z list t (λ e. n (ap (λ (ws : List Whole). listed (map (λ (w : Whole). number w.value) ws)) e))
+    (sym (value_is z (listed (map (λ (w : Whole). number w.value) list)) list refl) ∙ root)
+
 -- so the list of all roots of 127 bits is that of all roots
 pub are_roots : (list : List Whole) (xs : List ℤ) → IsTrue (is_trimmed whole_algebra.ops (map (λ (w : Whole). number w.value) list))
     → ¬ (listed (map (λ (w : Whole). number w.value) list) ≡ listed [])
@@ -46,13 +53,10 @@ pub are_roots : (list : List Whole) (xs : List ℤ) → IsTrue (is_trimmed whole
     → AreRoots (listed (map (λ (w : Whole). number w.value) list)) xs
 are_roots list xs t n h =
     let m = listed (map (λ (w : Whole). number w.value) list) in
-    let small : (z : ℤ) → IsRoot (listed (map (λ (w : Whole). number w.value) list)) z → unsigned_abs z < 2 ^ 127 =
-    λ z root. root_small z list t (λ e. n (ap (λ (ws : List Whole). listed (map (λ (w : Whole). number w.value) ws)) e))
-    (sym (value_is z m list refl) ∙ root) in
     record {
       rising = all_rising (IsRoot m) (negsuc (2 ^ 127 - 1)) greatest xs h;
       each = each_has (IsRoot m) (negsuc (2 ^ 127 - 1)) greatest xs h;
-      all = λ z root. is_item (IsRoot m) (negsuc (2 ^ 127 - 1)) greatest xs h z (above z (small z root)) (below z (small z root)) root;
+      all = λ z root. is_item (IsRoot m) (negsuc (2 ^ 127 - 1)) greatest xs h z (above z (root_within list t n z root)) (below z (root_within list t n z root)) root;
     }
   where
     above : (z : ℤ) → unsigned_abs z < 2 ^ 127 → negsuc (2 ^ 127 - 1) <ℤ z

@@ -5,3 +5,4 @@ pub mod Differences
 pub mod Turns
 pub mod LinearFactors
 pub mod FactorBounds
+pub mod FactorSearch

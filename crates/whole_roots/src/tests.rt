@@ -1,4 +1,4 @@
-use crate::{sign_at, whole_roots};
+use crate::{linear_factors, sign_at, whole_roots};
 use poly_generic::{Poly, Zn};
 use ring_laws::{Ring, RingFault, Sign, Whole};
 use std::alloc::Global;
@@ -66,5 +66,65 @@ fn signs_of_values(rt: HostRuntime) -> Result<(), RingFault> {
         0, 0, 0, 0, 0, 0, 0, 0, 0, 0, 0, 0, 0, 0, 0, 0, 0, 0, 0, 0, GREATEST,
     ];
     assert!(rt; has_sign(alloc, &twentieth, least, Sign::Positive)?);
+    Ok(())
+}
+
+// Whether these are the linear factors of the polynomial with these coefficients, each with its power.
+fn has_factors(
+    alloc: Global,
+    values: &[i128],
+    factors: &[(u8, i128, u32)],
+) -> Result<bool, RingFault> {
+    let f = numbers(alloc, values)?;
+    if f.is_zero() {
+        return Ok(false);
+    }
+    let found = linear_factors(alloc, &f)?;
+    if found.len() != factors.len() {
+        return Ok(false);
+    }
+    for index in 0..factors.len() {
+        let (slope, constant, power) = factors[index];
+        match found.get_index(index) {
+            Some((form, times)) => {
+                if *form != (slope, constant) || *times != power {
+                    return Ok(false);
+                }
+            }
+            None => return Ok(false),
+        }
+    }
+    Ok(true)
+}
+
+#[test]
+fn linear_factors_of_known_polynomials(rt: HostRuntime) -> Result<(), RingFault> {
+    let alloc = rt.alloc();
+
+    // 4*n^3 + 16*n^2 + 13*n + 3 = (n + 3)*(2*n + 1)^2
+    assert!(rt; has_factors(alloc, &[3, 13, 16, 4], &[(1, 3, 1), (2, 1, 2)])?);
+
+    // (3*n + 2)^3, and (4*n - 3)*(n + 5)
+    assert!(rt; has_factors(alloc, &[8, 36, 54, 27], &[(3, 2, 3)])?);
+    assert!(rt; has_factors(alloc, &[-15, 17, 4], &[(1, 5, 1), (4, -3, 1)])?);
+
+    // -6*n*(n - 1), and 2*(n + 2), of which 2*n + 4 isn't listed
+    assert!(rt; has_factors(alloc, &[0, 6, -6], &[(1, -1, 1), (1, 0, 1)])?);
+    assert!(rt; has_factors(alloc, &[4, 2], &[(1, 2, 1)])?);
+
+    // (n - 4)*(n + 4)*(2*n - 1)*(2*n + 1)
+    let four = [(1, -4, 1), (1, 4, 1), (2, -1, 1), (2, 1, 1)];
+    assert!(rt; has_factors(alloc, &[16, 0, -65, 0, 4], &four)?);
+    assert!(rt;
+        has_factors(
+            alloc,
+            &[0, (1 << 100) + 1, 1],
+            &[(1, 0, 1), (1, (1 << 100) + 1, 1)]
+        )?
+    );
+    assert!(rt; has_factors(alloc, &[1, 5], &[])?);
+    assert!(rt; has_factors(alloc, &[1, 0, 1], &[])?);
+    assert!(rt; has_factors(alloc, &[-7], &[])?);
+    assert!(rt; has_factors(alloc, &[1 << 126, 1], &[]).is_err());
     Ok(())
 }
