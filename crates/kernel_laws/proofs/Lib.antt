@@ -18,3 +18,4 @@ pub mod Vectors
 pub mod Bases
 pub mod TimesInBounds
 pub mod RunSizes
+mod KnownRows

@@ -10,3 +10,4 @@ mod RowContents
 mod ReducedRows
 mod Leads
 mod Cores
+mod KnownRows

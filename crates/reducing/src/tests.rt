@@ -39,7 +39,12 @@ fn reduces_to<R: Reducing>(alloc: Global, row: Vec<R>, wanted: &[R]) -> Result<b
 }
 
 // Whether these are the plain part and the core of the value, and their product is the value.
-fn has_parts<R: Reducing>(alloc: Global, value: &R, plain: &R, core: &R) -> Result<bool, RingFault> {
+fn has_parts<R: Reducing>(
+    alloc: Global,
+    value: &R,
+    plain: &R,
+    core: &R,
+) -> Result<bool, RingFault> {
     if value.is_zero() {
         return Ok(false);
     }
