@@ -19,3 +19,6 @@ pub mod Bases
 pub mod TimesInBounds
 pub mod RunSizes
 mod KnownRows
+pub mod Cancelling
+pub mod OneRun
+pub mod OneVector
