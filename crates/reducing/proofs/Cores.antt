@@ -76,7 +76,8 @@ module _ (x : Meaning) (g : Zn) (h : PolynomialsReduced (x ∷ []) (senses (g �
       not_zero e = cc (
         n,
         (laws.ring.is_nought only.value).1
-            (head factor.is ∙ ap (λ v. P.product v factor.factor) (same_passing polynomials rest P.nought e) ∙ nought_product P laws.ring factor.factor),
+            (head factor.is ∙ ap (λ v. P.product v factor.factor) (same_passing polynomials rest P.nought e)
+            ∙ nought_product P laws.ring factor.factor),
         ap polynomials.ops.is_nought only.value_is,
       )
 

@@ -55,7 +55,8 @@ module _ (row : List Meaning) (n : ℕ) where
       record {
         within = omega arith;
         nonzero = nonzero_at m e z;
-        least = at_last (λ k. IsNonzeroAt row k → degree_at row n ≤ degree_at row k) (λ c. omega arith) (λ k d c. omega (arith, lesser, h.least k d c));
+        least = at_last (λ k. IsNonzeroAt row k → degree_at row n ≤ degree_at row k) (λ c. omega arith)
+            (λ k d c. omega (arith, lesser, h.least k d c));
         first = λ k d c. omega (arith, lesser, h.least k d c);
       }
 

@@ -24,7 +24,8 @@ use Rattle.reducing.proofs.Polynomials.{Zn, sense, senses, row_of, row_meant}
 use Rattle.reducing.proofs.WithoutFactor.{row_is, products_are}
 
 -- a row of zeros
-pub row_stays : (row : List Zn) (d : ℤ) → IsContent (row_sizes (senses row)) (unsigned_abs d) → d ≡ pos 0 → PolynomialsReduced (senses row) (senses row)
+pub row_stays : (row : List Zn) (d : ℤ) → IsContent (row_sizes (senses row)) (unsigned_abs d) → d ≡ pos 0
+    → PolynomialsReduced (senses row) (senses row)
 row_stays row d h e = record {
   row = row_of row;
   row_is = row_meant row;
@@ -70,7 +71,8 @@ most_of row place x b h rest e =
       length-map rest (λ (v : Passing polynomials). polynomials.ops.product v.0 t),
     )
 
-    divides_entry : polynomials.ops.product (get_or rest place P.nought).0 (form_power x.0.0 x.0.1 (x.1 + 1)) ≡ entry_at polynomials.ops (senses row) place
+    divides_entry : polynomials.ops.product (get_or rest place P.nought).0 (form_power x.0.0 x.0.1 (x.1 + 1))
+        ≡ entry_at polynomials.ops (senses row) place
     divides_entry = ap (polynomials.ops.product (get_or rest place P.nought).0) (form_power_is x.0.0 x.0.1 (x.1 + 1))
         ∙ sym (entry_of_times t rest place inside) ∙ ap (λ ms. entry_at polynomials.ops ms place) (sym e)
 
@@ -124,7 +126,8 @@ module _ (row quotients : List Zn) (d : ℤ) (h : IsContent (row_sizes (senses r
           (subst (λ x. AllTakenOut polynomials (forms xs) k.row x) (row_is new.items k.result k.result_is) k.holds));
     }
       where
-        factors_of : (ys : List Entry) → AreLinearFactors (entry_at polynomials.ops (senses quotients) place) ys → FactorsOfLeast (row_of quotients) ys
+        factors_of : (ys : List Entry) → AreLinearFactors (entry_at polynomials.ops (senses quotients) place) ys
+            → FactorsOfLeast (row_of quotients) ys
         factors_of ys g = record {
           place = place;
           least = least_meant;

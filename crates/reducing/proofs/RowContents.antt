@@ -30,7 +30,8 @@ last_part d (x ∷ xs) ys h = last_part d xs ys h.1
 pub divides_entry : (row : List Zn) (i : ℕ) (f : Zn) (d : ℕ) → i < length row → f ≡ get_or row i f → DividesAll d (row_sizes (senses row))
     → DividesAll d (sizes_of (sense f))
 divides_entry [] i f d b e h = absurd (omega arith)
-divides_entry (g ∷ gs) zero f d b e h = subst (λ k. DividesAll d (sizes_of (sense k))) (sym e) (first_part d (sizes_of (sense g)) (row_sizes (senses gs)) h)
+divides_entry (g ∷ gs) zero f d b e h =
+    subst (λ k. DividesAll d (sizes_of (sense k))) (sym e) (first_part d (sizes_of (sense g)) (row_sizes (senses gs)) h)
 divides_entry (g ∷ gs) (suc i) f d b e h = divides_entry gs i f d (omega arith) e (last_part d (sizes_of (sense g)) (row_sizes (senses gs)) h)
 
 -- ---- a content is below 2^127
@@ -88,7 +89,8 @@ zero_sizes (q ∷ qs) d h = cc (ap sizes_of zero_product, zero_sizes qs d (λ k 
 
     zero_product : polynomials.ops.product (sense q) (polynomials.ops.whole d) ≡ polynomials.ops.nought
     zero_product = ap (λ (v : Passing polynomials). v.0)
-        (ap (λ (v : Passing polynomials). P.product v (P.whole d)) ((laws.ring.is_nought at).0 (h 0 (omega arith))) ∙ nought_product P laws.ring (P.whole d))
+        (ap (λ (v : Passing polynomials). P.product v (P.whole d)) ((laws.ring.is_nought at).0 (h 0 (omega arith)))
+        ∙ nought_product P laws.ring (P.whole d))
 
 pub some_quotient : (row quotients : List Zn) (d : ℤ) (r : Option ℕ) → IsContent (row_sizes (senses row)) (unsigned_abs d) → d ≢ pos 0
     → senses row ≡ map (λ q. polynomials.ops.product (sense q) (polynomials.ops.whole d)) quotients

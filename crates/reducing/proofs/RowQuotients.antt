@@ -27,7 +27,8 @@ products_more row quotients new t i f q b e g h p =
     ∙ ap (λ u. u ++ polynomials.ops.product (sense q) t ∷ []) p
     ∙ sym (ap (map (λ v. polynomials.ops.product (sense v) t)) g ∙ map_push (λ v. polynomials.ops.product (sense v) t) quotients q)
 
-pub products_all : (row quotients : List Zn) (t : Meaning) (n : ℕ) → length row ≡ n → AreProducts (take n row) t quotients → AreProducts row t quotients
+pub products_all : (row quotients : List Zn) (t : Meaning) (n : ℕ) → length row ≡ n → AreProducts (take n row) t quotients
+    → AreProducts row t quotients
 products_all row quotients t n e h = subst (λ u. AreProducts u t quotients) (take_all n row (omega (arith, e))) h
 
 -- the entries before have quotients
@@ -54,7 +55,8 @@ quotient_not row quotients t i f fault b e p h =
 
 -- an entry without a quotient
 pub none_at : (row : List Zn) (t : Meaning) (i : ℕ) (f : Zn) → i < length row → f ≡ get_or row i f
-    → ((q : Passing polynomials) → ¬ (polynomials.ops.product q.0 t ≡ sense f)) → (quotients : Row) → ¬ (senses row ≡ times_row polynomials t quotients)
+    → ((q : Passing polynomials) → ¬ (polynomials.ops.product q.0 t ≡ sense f)) → (quotients : Row)
+    → ¬ (senses row ≡ times_row polynomials t quotients)
 none_at [] t i f b e h quotients p = absurd (omega arith)
 none_at (g ∷ gs) t i f b e h [] p = cc
 none_at (g ∷ gs) t zero f b e h (q ∷ qs) p = h q (sym (first p) ∙ ap sense (sym e))

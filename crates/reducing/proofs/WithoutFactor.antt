@@ -78,7 +78,8 @@ module _ (u : ℕ) (v : ℤ) (h : 1 ≤ u) where
       (scaled_is polynomials laws domain t (row_of rest) quotients (sym (row_meant rest) ∙ f))))
 
   pub fault_left : (power : ℕ) (row rest : List Zn) (fault : RingFault) → IsLeft form power row rest
-      → OnFault (¬ (QuotientsInBounds DivisionOfPolynomials polynomials form (senses rest))) fault → OnFault (¬ (FactorInBounds form (senses row))) fault
+      → OnFault (¬ (QuotientsInBounds DivisionOfPolynomials polynomials form (senses rest))) fault
+      → OnFault (¬ (FactorInBounds form (senses row))) fault
   fault_left power row rest fault e k =
       fault_weaker fault (λ n s. n (subst (QuotientsInBounds DivisionOfPolynomials polynomials form) (sym (row_meant rest))
       (s (row_of row) (row_meant row) power (row_of rest) (sym (row_meant row) ∙ e)))) k

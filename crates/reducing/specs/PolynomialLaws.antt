@@ -48,11 +48,13 @@ one_quotients old quotients others h k =
     cancel_row polynomials laws domain (P.whole (pos h.content)) (whole_not_zero h.content h.not_zero) quotients others
     (sym (scaled_is polynomials laws domain (P.whole (pos h.content)) old quotients h.times)
     ∙ scaled_is polynomials laws domain (P.whole (pos k.content)) old others k.times
-    ∙ ap (λ c. scaled polynomials laws domain (P.whole (pos c)) others) (one_content (row_sizes (meant old)) k.content h.content k.is_content h.is_content))
+    ∙ ap (λ c. scaled polynomials laws domain (P.whole (pos c)) others)
+    (one_content (row_sizes (meant old)) k.content h.content k.is_content h.is_content))
 
 one_least : (row : List Meaning) (p q : ℕ) → IsLeast row p → IsLeast row q → p ≡ q
 one_least row p q h k = ⊎_elim (λ b. absurd (omega (arith, k.first p b h.nonzero, h.least q k.within k.nonzero)))
-    (λ b. ⊎_elim (λ c. absurd (omega (arith, h.first q c k.nonzero, k.least p h.within h.nonzero))) (λ c. omega (arith, b, c)) (cases_lt q p)) (cases_lt p q)
+    (λ b. ⊎_elim (λ c. absurd (omega (arith, h.first q c k.nonzero, k.least p h.within h.nonzero))) (λ c. omega (arith, b, c)) (cases_lt q p))
+    (cases_lt p q)
 
 one_forms : (row : Row) (xs ys : List Entry) → FactorsOfLeast row xs → FactorsOfLeast row ys → forms xs ≡ forms ys
 one_forms row xs ys h k =

@@ -13,7 +13,7 @@ use Rattle.poly_laws.proofs.Trimming.{trimmed_already}
 use Rattle.ring_laws.specs.WholeLaws.{whole_laws}
 use Rattle.whole_roots.specs.Differences.{polynomials}
 use Rattle.kernel_laws.specs.Reduction.{Splits, ReductionLaws}
-use Rattle.reducing.specs.TakenOutLaws.{cancel_factor}
+use Rattle.kernel_laws.proofs.Cancelling.{cancel_factor}
 use Rattle.reducing.specs.PolynomialRows.{Reduced, degree, lead_number, IsCore, PolynomialSplit, polynomial_reduction}
 use Rattle.reducing.specs.FactorLists.{laws, domain, P}
 use Rattle.reducing.specs.PolynomialLaws.{one_reduced, polynomials_reduce, one_row}
@@ -73,11 +73,7 @@ opposite : (f : Passing polynomials) (x y : Meaning) → x ≡ f.0 → y ≡ pol
 opposite f x y d e h k = omega (arith, ints, h, k, ap lead_number d, ap lead_number e, lead_negative f)
 
 one_core : (x core other : Meaning) → IsCore x core → IsCore x other → core ≡ other
-one_core x core other h k =
-    ⊎_elim
-    (λ d. ⊎_elim (λ e. d ∙ sym (e ∙ rests)) (λ e. absurd (opposite h.rest core other d (e ∙ ap polynomials.ops.neg rests) h.positive k.positive)) k.core_is)
-    (λ d. ⊎_elim (λ e. absurd (opposite h.rest other core (e ∙ rests) d k.positive h.positive)) (λ e. d ∙ sym (e ∙ ap polynomials.ops.neg rests)) k.core_is)
-    h.core_is
+one_core x core other h k = ⊎_elim (λ d. ⊎_elim (both_same d) (first_same d) k.core_is) (λ d. ⊎_elim (last_same d) (both_negative d) k.core_is) h.core_is
   where
     values : k.value ≡ h.value
     values = same_passing polynomials k.value h.value (sym k.value_is ∙ h.value_is)
@@ -86,7 +82,20 @@ one_core x core other h k =
     same_head e = cc
 
     rests : k.rest.0 ≡ h.rest.0
-    rests = same_head (one_reduced (h.value ∷ []) (k.rest ∷ []) (h.rest ∷ []) (subst (λ v. Reduced (v ∷ []) (k.rest ∷ [])) values k.reduced) h.reduced)
+    rests = same_head (one_reduced (h.value ∷ []) (k.rest ∷ []) (h.rest ∷ [])
+        (subst (λ v. Reduced (v ∷ []) (k.rest ∷ [])) values k.reduced) h.reduced)
+
+    both_same : core ≡ h.rest.0 → other ≡ k.rest.0 → core ≡ other
+    both_same d e = d ∙ sym (e ∙ rests)
+
+    first_same : core ≡ h.rest.0 → other ≡ polynomials.ops.neg k.rest.0 → core ≡ other
+    first_same d e = absurd (opposite h.rest core other d (e ∙ ap polynomials.ops.neg rests) h.positive k.positive)
+
+    last_same : core ≡ polynomials.ops.neg h.rest.0 → other ≡ k.rest.0 → core ≡ other
+    last_same d e = absurd (opposite h.rest other core (e ∙ rests) d k.positive h.positive)
+
+    both_negative : core ≡ polynomials.ops.neg h.rest.0 → other ≡ polynomials.ops.neg k.rest.0 → core ≡ other
+    both_negative d e = d ∙ sym (e ∙ ap polynomials.ops.neg rests)
 
 one_split : (x plain core other rest : Meaning) → PolynomialSplit x plain core → PolynomialSplit x other rest → (plain ≡ other) × (core ≡ rest)
 one_split x plain core other rest h k = (plains, cores)

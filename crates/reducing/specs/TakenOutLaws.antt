@@ -9,10 +9,10 @@ use Rattle.ring_laws.specs.Algebra.{Ops, Algebra, Passing, within, Laws, same_pa
 use Rattle.ring_laws.specs.Division.{DomainLaws}
 use Rattle.poly_laws.proofs.Coefficients.{meanings_same}
 use Rattle.poly_laws.proofs.ListLaws.{product_nought}
-use Rattle.poly_laws.proofs.OneQuotient.{equal_by, neg_product}
 use Rattle.poly_laws.proofs.PolyDomain.{no_divisors_within}
 use Rattle.kernel_laws.specs.Rows.{entry_at}
 use Rattle.kernel_laws.specs.Reduction.{Reduces, bare}
+use Rattle.kernel_laws.proofs.Cancelling.{cancel_factor}
 use Rattle.reducing.specs.TakenOut.{raised_to, times_row, TakenOut, AllTakenOut, none, next}
 
 module _ (a : Algebra) (l : Laws a) (d : DomainLaws a) where
@@ -36,25 +36,11 @@ module _ (a : Algebra) (l : Laws a) (d : DomainLaws a) where
   pub is_scaled : (t : Passing a) (old new : Row) → old ≡ scaled t new → bare a old ≡ times_row a t.0 new
   is_scaled t old new e = ap (bare a) e ∙ bare_scaled t new
 
-  pub cancel_factor : (x y t : Passing a) → ¬ (t ≡ W.nought) → W.product x t ≡ W.product y t → x ≡ y
-  cancel_factor x y t n e = equal_by W l.ring x y (⊎_elim (λ h. h) (λ h. absurd (n h)) (no_divisors_within a l.closed d (W.sum x (W.neg y)) t zero))
-    where
-      zero : W.product (W.sum x (W.neg y)) t ≡ W.nought
-      zero = cc (
-        l.ring.product_comm (W.sum x (W.neg y)) t,
-        l.ring.distributes t x (W.neg y),
-        l.ring.product_comm t x,
-        l.ring.product_comm t (W.neg y),
-        neg_product W l.ring y t,
-        e,
-        l.ring.sum_neg (W.product y t),
-      )
-
   pub cancel_row : (t : Passing a) → ¬ (t ≡ W.nought) → (xs ys : Row) → scaled t xs ≡ scaled t ys → xs ≡ ys
   cancel_row t n [] [] e = refl
   cancel_row t n [] (y ∷ ys) e = cc
   cancel_row t n (x ∷ xs) [] e = cc
-  cancel_row t n (x ∷ xs) (y ∷ ys) e = cc (cancel_factor x y t n (first e), cancel_row t n xs ys (rest e))
+  cancel_row t n (x ∷ xs) (y ∷ ys) e = cc (cancel_factor a l d x y t n (first e), cancel_row t n xs ys (rest e))
     where
       first : {v w : Passing a} {vs ws : Row} → v ∷ vs ≡ w ∷ ws → v ≡ w
       first e = cc
@@ -164,8 +150,8 @@ module _ (a : Algebra) (l : Laws a) (d : DomainLaws a) where
   not_zero : (t : Meaning) (f : IsFactor t) → ¬ ((t, f.0) ≡ W.nought)
   not_zero t f e = f.1 (ap (λ (v : Passing a). v.0) e)
 
-  pub one_all_taken_out : (ts : List Meaning) → AllByRecursion IsFactor ts → (old new other : Row) → AllTakenOut a ts old new → AllTakenOut a ts old other
-      → new ≡ other
+  pub one_all_taken_out : (ts : List Meaning) → AllByRecursion IsFactor ts → (old new other : Row) → AllTakenOut a ts old new
+      → AllTakenOut a ts old other → new ≡ other
   one_all_taken_out [] f old new other none none = refl
   one_all_taken_out (t ∷ ts) f old new other (next {between = x} h hs) (next {between = y} k ks) =
       one_all_taken_out ts f.1 y new other

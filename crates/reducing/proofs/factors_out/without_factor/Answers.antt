@@ -30,7 +30,8 @@ returns-in_err-quotients c =
           (subst (λ v. IsLeft (linear (pos c.args.u) v) c.loop-time._time row rest) z c.loop-time.invariant.left)
           (subst (λ v. OnFault (¬ (QuotientsInBounds DivisionOfPolynomials polynomials (linear (pos c.args.u) v) (senses rest)))
           c.in_err-quotients.field-0.0) z
-          (subst (λ r. OnFault (¬ (QuotientsInBounds DivisionOfPolynomials polynomials (linear (pos c.args.u) (to_z w128 (of_z w128 c.args.v))) (senses r))) c.in_err-quotients.field-0.0)
+          (subst (λ r. OnFault (¬ (QuotientsInBounds DivisionOfPolynomials polynomials
+          (linear (pos c.args.u) (to_z w128 (of_z w128 c.args.v))) (senses r))) c.in_err-quotients.field-0.0)
           c.deref.ensures.value c.in_err-quotients.ensures.divides)));
     }
 
@@ -45,7 +46,8 @@ returns-in-None c =
           (subst (λ v. IsLeft (linear (pos c.args.u) v) c.loop-time._time row rest) z c.loop-time.invariant.left)
           (subst (λ o. DividesEach sense (senses rest) (linear (pos c.args.u) c.args.v) (Ok o)) c.in-None.is
           (subst (λ v. DividesEach sense (senses rest) (linear (pos c.args.u) v) (Ok c.in_ok-quotients.field-0)) z
-          (subst (λ r. DividesEach sense (senses r) (linear (pos c.args.u) (to_z w128 (of_z w128 c.args.v))) (Ok c.in_ok-quotients.field-0)) c.deref.ensures.value c.in_ok-quotients.ensures.divides)));
+          (subst (λ r. DividesEach sense (senses r) (linear (pos c.args.u) (to_z w128 (of_z w128 c.args.v))) (Ok c.in_ok-quotients.field-0))
+          c.deref.ensures.value c.in_ok-quotients.ensures.divides)));
     }
 
 pub loop-time-preserved : goal.loop-time-preserved
@@ -61,7 +63,8 @@ loop-time-preserved c =
           (subst (λ v. IsLeft (linear (pos c.args.u) v) c.loop-time._time row rest) z c.loop-time.invariant.left)
           (subst (λ o. DividesEach sense (senses rest) (linear (pos c.args.u) c.args.v) (Ok o)) c.in-Some.is
           (subst (λ v. DividesEach sense (senses rest) (linear (pos c.args.u) v) (Ok c.in_ok-quotients.field-0)) z
-          (subst (λ r. DividesEach sense (senses r) (linear (pos c.args.u) (to_z w128 (of_z w128 c.args.v))) (Ok c.in_ok-quotients.field-0)) c.deref.ensures.value c.in_ok-quotients.ensures.divides))));
+          (subst (λ r. DividesEach sense (senses r) (linear (pos c.args.u) (to_z w128 (of_z w128 c.args.v))) (Ok c.in_ok-quotients.field-0))
+          c.deref.ensures.value c.in_ok-quotients.ensures.divides))));
     }
 
 pub returns : goal.returns

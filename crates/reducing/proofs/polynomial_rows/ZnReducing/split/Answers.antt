@@ -6,7 +6,8 @@ pub returns-in_err-plain : goal.returns-in_err-plain
 returns-in_err-plain c = record {
   splits =
       fault_parts (sense c.args.self.now) c.from_residual-in_err-plain.result c.in_err-plain.field-0.0 c.from_residual-in_err-plain.ensures.1
-      (plain_fault (sense c.args.self.now) (sense c.in_ok-core.core) c.in_err-plain.field-0.0 c.in_ok-core.ensures.core c.in_err-plain.ensures.divides);
+      (plain_fault (sense c.args.self.now) (sense c.in_ok-core.core) c.in_err-plain.field-0.0 c.in_ok-core.ensures.core
+      c.in_err-plain.ensures.divides);
 }
 
 pub unwrap-requires : goal.unwrap-requires
