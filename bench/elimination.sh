@@ -1,20 +1,14 @@
 #!/bin/sh
-# The time and the instructions of `eliminate` on the matrices of three key equations, over polynomials in n: of Franel's sum of
-# binomial(n,k)^3 at order 2 (7 rows, 7 columns), of Apery's sum of binomial(n,k)^2*binomial(n+k,k)^2 at order 2 (5 rows, 6 columns), and of
-# Dixon's pair (7 rows, 6 columns). Wanted: Franel's under 3 ms.
-# The program is bench/elimination.txt. It is built in a folder of its own, over a copy of the crates below it; that proves them first.
-here=$(cd "$(dirname "$0")/.." && pwd) || exit 1
-work=$(mktemp -d) || exit 1
-trap 'rm -rf "$work"' EXIT
-mkdir -p "$work/crates/elimination/src" "$work/crates/elimination/proofs/are_of_width"
-for name in ring_solver ring_laws poly_laws kernel_laws poly_generic poly_divide whole_roots reducing fraction_free; do
-    mkdir "$work/crates/$name" || exit 1
-    cp -r "$here/crates/$name/src" "$here/crates/$name/specs" "$here/crates/$name/proofs" "$work/crates/$name" || exit 1
-    grep "^$name:" "$here/crates.txt" >>"$work/crates.txt" || exit 1
-done
-echo "elimination: ring_laws poly_generic reducing fraction_free either" >>"$work/crates.txt"
-cp "$here/bench/elimination.txt" "$work/crates/elimination/src/main.rt" || exit 1
-cat >"$work/crates/elimination/proofs/are_of_width/Invariants.antt" <<'ANTT'
+# The time and the instructions of `eliminate` on the matrices of three key equations, over polynomials in n:
+#   franel  of the sum of binomial(n,k)^3 at order 2: 7 rows, 7 columns
+#   apery   of the sum of binomial(n,k)^2*binomial(n+k,k)^2 at order 2: 5 rows, 6 columns
+#   dixon   of Dixon's pair: 7 rows, 6 columns
+# Wanted: franel under 3 ms. The program is bench/elimination.txt.
+. "$(dirname "$0")/crates.sh"
+copied timed elimination "ring_laws poly_generic fraction_free either" \
+    ring_solver ring_laws poly_laws kernel_laws poly_generic poly_divide whole_roots reducing fraction_free
+mkdir -p "$work/timed/crates/elimination/proofs/are_of_width" || exit 1
+cat >"$work/timed/crates/elimination/proofs/are_of_width/Invariants.antt" <<'ANTT'
 use Rattle.std.proofs.Common.{◌≡◌, ◌<◌, length, ℕ, get_or}
 use Rattle.elimination.proofs.are_of_width.Given as goal
 
@@ -22,10 +16,9 @@ use Rattle.elimination.proofs.are_of_width.Given as goal
 abbrev pub invariant-loop-at : goal.invariant-loop-at
 invariant-loop-at l = (k : ℕ) (d : _) → k < l.at → length (get_or l.rows k d).items ≡ l.width
 ANTT
-(cd "$work/crates/elimination" && rt run -- franel 0) >"$work/log" 2>&1
-[ -x "$work/crates/elimination/out/elimination" ] || { cat "$work/log" >&2; exit 1; }
+built timed elimination franel 0
 
-exec python3 - "$work/crates/elimination/out/elimination" <<'PY'
+exec python3 - "$work/timed/crates/elimination/out/elimination" <<'PY'
 import re, statistics, subprocess, sys, time
 
 def seconds(way, count):

@@ -6,32 +6,16 @@
 #   free        the same products of lists of numbers that wrap, with no bound at all
 # Wanted: `polys` at most 1.3 times as long as a product without any bound check.
 # The program is bench/products.txt. It is built twice in a folder of its own, over a copy of the crates below it; that proves them first.
-here=$(cd "$(dirname "$0")/.." && pwd) || exit 1
-work=$(mktemp -d) || exit 1
-trap 'rm -rf "$work"' EXIT
-
-# build NAME: the program over the crates that stand in the folder NAME
-build() {
-    (cd "$work/$1/crates/products" && rt run -- polys 0) >"$work/$1.log" 2>&1
-    [ -x "$work/$1/crates/products/out/products" ] || { cat "$work/$1.log" >&2; exit 1; }
-}
-
-mkdir -p "$work/tested/crates/products/src"
-for name in ring_solver ring_laws poly_laws poly_generic; do
-    mkdir "$work/tested/crates/$name" || exit 1
-    cp -r "$here/crates/$name/src" "$here/crates/$name/specs" "$here/crates/$name/proofs" "$work/tested/crates/$name" || exit 1
-    grep "^$name:" "$here/crates.txt" >>"$work/tested/crates.txt" || exit 1
-done
-echo "products: ring_laws poly_generic" >>"$work/tested/crates.txt"
-cp "$here/bench/products.txt" "$work/tested/crates/products/src/main.rt" || exit 1
-build tested
+. "$(dirname "$0")/crates.sh"
+copied tested products "ring_laws poly_generic" ring_solver ring_laws poly_laws poly_generic
+built tested products polys 0
 
 # A test that never says yes needs no proof.
 cp -r "$work/tested" "$work/untested"
 rm -r "$work/untested/crates/poly_generic/proofs/polys/Poly/is_product_surely_in_bounds" || exit 1
 sed -i '/self.list.len() + other.list.len() <= 257/,/is_surely_in_bounds(alloc, &self.list/c\        false' \
     "$work/untested/crates/poly_generic/src/products.rt"
-build untested
+built untested products polys 0
 
 exec python3 - "$work" <<'PY'
 import re, subprocess, sys, time

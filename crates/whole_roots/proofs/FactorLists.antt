@@ -14,15 +14,16 @@ use Rattle.whole_roots.specs.LinearFactors.{IsProfileForm, PowerDivides, Entry, 
 use Rattle.whole_roots.specs.FactorSearch.{AreFactorsAmong, AddsFactor}
 
 -- what a greatest common divisor of 1 says, and what another one does
-pub profile_form : (u : ℕ) (v : ℤ) (g : ℕ) → 1 ≤ u → u ≤ 4 → IsGcd u (unsigned_abs v) g → g ≡ 1 → IsProfileForm u v
-profile_form u v g low high h e = record {
-  from_one = low;
-  to_four = high;
-  coprime = λ d p q. eq-one_of_dvd-one (subst (λ n. d ∣ n) e (h.2 d p q));
-}
+module _ (u : ℕ) (v : ℤ) (a b g : ℕ) (gcd : IsGcd a b g) (first : a ≡ u) (second : b ≡ unsigned_abs v) where
+  pub profile_form : 1 ≤ u → u ≤ 4 → g ≡ 1 → IsProfileForm u v
+  profile_form low high e = record {
+    from_one = low;
+    to_four = high;
+    coprime = λ d p q. eq-one_of_dvd-one (subst (λ n. d ∣ n) e (gcd.2 d (subst (λ n. d ∣ n) (sym first) p) (subst (λ n. d ∣ n) (sym second) q)));
+  }
 
-pub no_profile_form : (u : ℕ) (v : ℤ) (g : ℕ) → IsGcd u (unsigned_abs v) g → ¬ (g ≡ 1) → ¬ (IsProfileForm u v)
-no_profile_form u v g h n form = n (form.coprime g h.0 h.1)
+  pub no_profile_form : ¬ (g ≡ 1) → ¬ (IsProfileForm u v)
+  no_profile_form n form = n (form.coprime g (subst (λ n. g ∣ n) first gcd.0) (subst (λ n. g ∣ n) second gcd.1))
 
 -- an earlier form isn't the same
 earlier : (x y : ℕ × ℤ) → IsBefore x y → nat_eq y.0 x.0 && int_eq y.1 x.1 ≡ false
@@ -34,7 +35,8 @@ earlier x y h = by (nat_eq y.0 x.0 && int_eq y.1 x.1) refl h
     by true e (inr k) = absurd (omega (arith, ints, k.1, (Decides-int_eq y.1 x.1).0 (and_parts (nat_eq y.0 x.0) (int_eq y.1 x.1) e).1))
 
 -- so an insertion of a later form puts it last
-pub inserted_last : (eq : ℕ × ℤ → ℕ × ℤ → Bool) → ((x y : ℕ × ℤ) → eq x y ≡ (nat_eq x.0 y.0 && int_eq x.1 y.1)) → (form : ℕ × ℤ) (e : ℕ) (es : List Entry)
+pub inserted_last : (eq : ℕ × ℤ → ℕ × ℤ → Bool) → ((x y : ℕ × ℤ) → eq x y ≡ (nat_eq x.0 y.0 && int_eq x.1 y.1))
+    → (form : ℕ × ℤ) (e : ℕ) (es : List Entry)
     → AllByRecursion (λ (x : Entry). IsBefore x.0 form) es → insert_entry eq es form e ≡ es ++ (form, e) ∷ []
 inserted_last eq agree form e [] h = refl
 inserted_last eq agree form e (x ∷ xs) h =
@@ -92,6 +94,7 @@ added P f u v old new before small (inr grows) h =
       each = each_last (IsLinearFactor f) old x h.each grows.2;
       small = each_last (λ (y : Entry). unsigned_abs y.0.1 < 2 ^ 127) old x h.small small;
       seen = each_last (λ (y : Entry). P y.0.0 y.0.1 ⊎ ((y.0.0 ≡ u) × (y.0.1 ≡ v))) old x
-          (each_kept (λ (y : Entry). P y.0.0 y.0.1) (λ (y : Entry). P y.0.0 y.0.1 ⊎ ((y.0.0 ≡ u) × (y.0.1 ≡ v))) (λ y. inl) old h.seen) (inr (refl, refl));
+          (each_kept (λ (y : Entry). P y.0.0 y.0.1) (λ (y : Entry). P y.0.0 y.0.1 ⊎ ((y.0.0 ≡ u) × (y.0.1 ≡ v))) (λ y. inl) old h.seen)
+          (inr (refl, refl));
       all = λ s t q form d. ⊎_elim (λ p. has_still s t old x (h.all s t p form d)) (λ (e : (s ≡ u) × (t ≡ v)). has_last s t old x e.0 e.1) q;
     })

@@ -3,15 +3,15 @@ use Rattle.std.specs.Prelude.{◌≡◌, ℕ, zero, suc, ◌≤◌, ◌^◌, ℤ
 use Rattle.std.proofs.Common.{ap, sym, ◌∙◌, ⊎_elim, pow-suc}
 use Rattle.std.proofs.lemmas.Bool.{false_from_ne_true}
 use Rattle.std.proofs.lemmas.List.{length-map}
-use Rattle.ring_laws.specs.Meaning.{number, items, parted-joined}
-use Rattle.ring_laws.specs.Algebra.{Ops, RingLaws, Passing, within, same_passing}
+use Rattle.ring_laws.specs.Meaning.{items, parted-joined}
+use Rattle.ring_laws.specs.Algebra.{Ops, RingLaws, Passing, same_passing}
 use Rattle.ring_laws.specs.WholeDomain.{whole_domain}
 use Rattle.ring_laws.specs.WholeLaws.{whole_laws}
 use Rattle.ring_laws.specs.Wholes.{whole_algebra, number_of}
 use Rattle.ring_solver.proofs.Read.{ring_z, reading_z}
 use Rattle.poly_laws.specs.Lists.{coefficient_at, list_product, trimmed, is_trimmed}
 use Rattle.poly_laws.specs.Values.{horner}
-use Rattle.poly_laws.proofs.Coefficients.{meanings_of, coefficients, poly_closed, meanings-coefficients, coefficients_trimmed, coefficients-product}
+use Rattle.poly_laws.proofs.Coefficients.{meanings_of, meanings-coefficients, coefficients_trimmed, coefficients-product}
 use Rattle.poly_laws.proofs.ListLaws.{sum_nought, product_nought, times_zero, times_suc}
 use Rattle.poly_laws.proofs.OneQuotient.{NoDivisors}
 use Rattle.poly_laws.proofs.PolyDomain.{no_divisors_within}
@@ -22,11 +22,11 @@ use Rattle.whole_roots.specs.FactorBounds.{stretched_list, stretched}
 use Rattle.whole_roots.specs.LinearFactors.{PowerDivides}
 use Rattle.whole_roots.specs.Roots.{IsRoot}
 use Rattle.whole_roots.proofs.DifferenceLaws.{base}
-use Rattle.whole_roots.proofs.FormLengths.{form_parts, slope_not}
+use Rattle.whole_roots.proofs.FormParts.{poly, parts, whole, form_parts, slope_not}
 use Rattle.whole_roots.proofs.FormPowers.{form, one_division}
 
 -- c and the products of a list with v + u*t, from power 0 up
-abbrev times_form : {A : Type 0} → Ops A → A → A → A → List A → List A
+abbrev pub times_form : {A : Type 0} → Ops A → A → A → A → List A → List A
 times_form o u v c [] = c ∷ []
 times_form o u v c (q ∷ qs) = o.sum (o.product v q) c ∷ times_form o u v (o.product u q) qs
 
@@ -70,64 +70,54 @@ cancelled : (v q c p u : ℤ) → (v *ℤ q +ℤ c) *ℤ (p *ℤ u) +ℤ neg_ℤ
 cancelled v q c p u = ring_z (v ∷ q ∷ c ∷ p ∷ u ∷ []) (search reading_z depth 40 fits 20000) refl
 
 module _ (u : ℕ) (v : ℤ) where
-  abbrev slope : Passing whole_algebra
-  slope = (number (pos u), refl)
-
-  abbrev constant : Passing whole_algebra
-  constant = (number v, refl)
-
-  abbrev stretched_value : List (Passing whole_algebra) → ℤ
+  abbrev pub stretched_value : List (Passing whole_algebra) → ℤ
   stretched_value xs = horner number_of (neg_ℤ v) (stretched_list u (meanings_of whole_algebra whole_laws.closed xs))
 
   -- at -v only what came from below is left
   times_form_value : (c : Passing whole_algebra) (qs : List (Passing whole_algebra))
-      → stretched_value (times_form base slope constant c qs) ≡ number_of c.0 *ℤ pos (u ^ length qs)
+      → stretched_value (times_form base (whole (pos u)) (whole v) c qs) ≡ number_of c.0 *ℤ pos (u ^ length qs)
   times_form_value c [] = no_more (number_of c.0 *ℤ pos (u ^ 0)) (neg_ℤ v)
   times_form_value c (q ∷ qs) =
-      let rest = times_form base slope constant (base.product slope q) qs in
+      let rest = times_form base (whole (pos u)) (whole v) (base.product (whole (pos u)) q) qs in
       let n : length (meanings_of whole_algebra whole_laws.closed rest) ≡ suc (length qs) =
-      length-map rest (λ (x : Passing whole_algebra). x.0) ∙ times_form_length base whole_laws.ring slope constant (base.product slope q) qs in
+      length-map rest (λ (x : Passing whole_algebra). x.0)
+      ∙ times_form_length base whole_laws.ring (whole (pos u)) (whole v) (base.product (whole (pos u)) q) qs in
       let more : pos (u ^ suc (length qs)) ≡ pos (u ^ length qs) *ℤ pos u = ap pos (pow-suc u (length qs)) in
-      (λ i. (v *ℤ number_of q.0 +ℤ number_of c.0) *ℤ pos (u ^ n i) +ℤ neg_ℤ v *ℤ times_form_value (base.product slope q) qs i)
+      (λ i. (v *ℤ number_of q.0 +ℤ number_of c.0) *ℤ pos (u ^ n i) +ℤ neg_ℤ v *ℤ times_form_value (base.product (whole (pos u)) q) qs i)
       ∙ ap (λ (z : ℤ). (v *ℤ number_of q.0 +ℤ number_of c.0) *ℤ z +ℤ neg_ℤ v *ℤ (pos u *ℤ number_of q.0 *ℤ pos (u ^ length qs))) more
       ∙ cancelled v (number_of q.0) (number_of c.0) (pos (u ^ length qs)) (pos u)
       ∙ ap (λ (z : ℤ). number_of c.0 *ℤ z) (sym more)
 
-  none_times : (z : ℤ) → pos 0 *ℤ z ≡ pos 0
+  pub same_list : (qs : List (Passing whole_algebra)) (k : ℕ)
+      → coefficient_at base (list_product base qs (whole v ∷ whole (pos u) ∷ [])) k
+      ≡ coefficient_at base (times_form base (whole (pos u)) (whole v) base.nought qs) k
+  same_list qs zero = sym (times_form_at base whole_laws.ring (whole (pos u)) (whole v) base.nought qs 0
+      ∙ sum_nought base whole_laws.ring (coefficient_at base (list_product base qs (whole v ∷ whole (pos u) ∷ [])) 0))
+  same_list qs (suc k) = sym (times_form_at base whole_laws.ring (whole (pos u)) (whole v) base.nought qs (suc k)
+      ∙ sum_nought base whole_laws.ring (coefficient_at base (list_product base qs (whole v ∷ whole (pos u) ∷ [])) (suc k)))
+
+  pub none_times : (z : ℤ) → pos 0 *ℤ z ≡ pos 0
   none_times z = ring_z (z ∷ []) (search reading_z depth 40 fits 20000) refl
 
   module _ (some : 1 ≤ u) (f q : Passing polynomials) (is : polynomials.ops.product q.0 (linear (pos u) v) ≡ f.0) where
-    abbrev parts : Passing polynomials → List (Passing whole_algebra)
-    parts x = coefficients whole_algebra whole_laws.closed x
-
-    abbrev poly : Ops (Passing polynomials)
-    poly = within polynomials (poly_closed whole_algebra whole_laws.closed)
-
-    product_parts : parts f ≡ trimmed base (list_product base (parts q) (constant ∷ slope ∷ []))
+    product_parts : parts f ≡ trimmed base (list_product base (parts q) (whole v ∷ whole (pos u) ∷ []))
     product_parts =
         ap parts (sym (same_passing polynomials (poly.product q (form u v some)) f is))
         ∙ coefficients-product whole_algebra whole_laws.closed q (form u v some)
-        ∙ ap (λ t. trimmed base (list_product base (parts q) t)) (form_parts u v some f q is)
-
-    same_list : (qs : List (Passing whole_algebra)) (k : ℕ)
-        → coefficient_at base (list_product base qs (constant ∷ slope ∷ [])) k ≡ coefficient_at base (times_form base slope constant base.nought qs) k
-    same_list qs zero = sym (times_form_at base whole_laws.ring slope constant base.nought qs 0
-        ∙ sum_nought base whole_laws.ring (coefficient_at base (list_product base qs (constant ∷ slope ∷ [])) 0))
-    same_list qs (suc k) = sym (times_form_at base whole_laws.ring slope constant base.nought qs (suc k)
-        ∙ sum_nought base whole_laws.ring (coefficient_at base (list_product base qs (constant ∷ slope ∷ [])) (suc k)))
+        ∙ ap (λ t. trimmed base (list_product base (parts q) t)) (form_parts u v some)
 
     value_none : stretched_value (parts f) ≡ pos 0
     value_none = by (parts q) refl
       where
         by : (qs : List (Passing whole_algebra)) → parts q ≡ qs → stretched_value (parts f) ≡ pos 0
-        by [] e = ap stretched_value (product_parts ∙ ap (λ t. trimmed base (list_product base t (constant ∷ slope ∷ []))) e)
+        by [] e = ap stretched_value (product_parts ∙ ap (λ t. trimmed base (list_product base t (whole v ∷ whole (pos u) ∷ []))) e)
         by (x ∷ xs) e =
-            ap stretched_value (product_parts ∙ ap (λ t. trimmed base (list_product base t (constant ∷ slope ∷ []))) e
-            ∙ trimmed_same base whole_laws.ring (list_product base (x ∷ xs) (constant ∷ slope ∷ []))
-            (times_form base slope constant base.nought (x ∷ xs)) (same_list (x ∷ xs))
-            ∙ trimmed_already base (times_form base slope constant base.nought (x ∷ xs))
-            (times_form_ended base whole_laws.ring slope constant (no_divisors_within whole_algebra whole_laws.closed whole_domain)
-            (slope_not u v some f q is) base.nought x xs
+            ap stretched_value (product_parts ∙ ap (λ t. trimmed base (list_product base t (whole v ∷ whole (pos u) ∷ []))) e
+            ∙ trimmed_same base whole_laws.ring (list_product base (x ∷ xs) (whole v ∷ whole (pos u) ∷ []))
+            (times_form base (whole (pos u)) (whole v) base.nought (x ∷ xs)) (same_list (x ∷ xs))
+            ∙ trimmed_already base (times_form base (whole (pos u)) (whole v) base.nought (x ∷ xs))
+            (times_form_ended base whole_laws.ring (whole (pos u)) (whole v) (no_divisors_within whole_algebra whole_laws.closed whole_domain)
+            (slope_not u v some) base.nought x xs
             (ap (is_trimmed base) (sym e) ∙ coefficients_trimmed whole_algebra whole_laws.closed q)))
             ∙ times_form_value base.nought (x ∷ xs) ∙ none_times (pos (u ^ length (x ∷ xs)))
 

@@ -44,7 +44,8 @@ pub root_at_small : (list : List Whole) (roots : List ℤ) → IsTrue (is_trimme
 root_at_small list roots t n h k z b e = root_within list t n z (h.each z (subst (λ (y : ℤ). IsItem y roots) (sym e) (item_at roots k z b)))
 
 -- the roots from an index on
-pub roots_from_index : (roots : List ℤ) (k : ℕ) (z : ℤ) → 0 < k → k ≤ length roots → z ≡ get_or roots (k - 1) z → drop (k - 1) roots ≡ z ∷ drop k roots
+pub roots_from_index : (roots : List ℤ) (k : ℕ) (z : ℤ) → 0 < k → k ≤ length roots → z ≡ get_or roots (k - 1) z
+    → drop (k - 1) roots ≡ z ∷ drop k roots
 roots_from_index roots k z some b e =
     let n : k - 1 + 1 ≡ k = omega (arith, some) in
     drop_more roots (k - 1) z (omega (arith, some, b)) ∙ (λ i. sym e i ∷ drop (n i) roots)
@@ -57,7 +58,8 @@ root_below roots k z some b e h = (subst IsRising (roots_from_index roots k z so
 -- no root of the slope is listed yet
 pub no_root_yet : (slope : ℕ) (f : Meaning) (xs : List Entry) → AreFactorsAmong (λ u v. u < slope) f xs → AreFactorsAmong (SeenAt slope []) f xs
 no_root_yet slope f xs h =
-    widened (λ u v. u < slope) (SeenAt slope []) f xs (λ u v. inl) (λ u v q form d. ⊎_elim (λ p. p) (λ (e : (u ≡ slope) × IsItem (neg_ℤ v) []). absurd e.1) q) h
+    widened (λ u v. u < slope) (SeenAt slope []) f xs (λ u v. inl)
+    (λ u v q form d. ⊎_elim (λ p. p) (λ (e : (u ≡ slope) × IsItem (neg_ℤ v) []). absurd e.1) q) h
 
 -- the form of the next root comes behind all that were seen
 pub comes_last : (slope : ℕ) (root : ℤ) (roots : List ℤ) → ((z : ℤ) → IsItem z roots → root <ℤ z) → (xs : List Entry)

@@ -22,11 +22,13 @@ pub ok_gives : {T E : Type 0} {P Q : T → Type 0} (r : Result T E) → ((x : T)
 ok_gives (Ok x) f h = f x h
 ok_gives (Err e) f h = tt
 
-pub divides_some : {T : Type 0} (meaning : T → Meaning) (a : Algebra) (InBounds : Meaning → Meaning → Type 0) (x y : Meaning) (r : Option T) (q : T) → r ≡ Some q
+pub divides_some : {T : Type 0} (meaning : T → Meaning) (a : Algebra) (InBounds : Meaning → Meaning → Type 0) (x y : Meaning) (r : Option T) (q : T)
+    → r ≡ Some q
     → Divides meaning a (InBounds x y) x y (Ok r) → a.ops.product (meaning q) y ≡ x
 divides_some meaning a InBounds x y r q e h = subst (λ t. Divides meaning a (InBounds x y) x y (Ok t)) e h
 
-pub divides_none : {T : Type 0} (meaning : T → Meaning) (a : Algebra) (InBounds : Meaning → Meaning → Type 0) (x y : Meaning) (r : Option T) → r ≡ None
+pub divides_none : {T : Type 0} (meaning : T → Meaning) (a : Algebra) (InBounds : Meaning → Meaning → Type 0) (x y : Meaning) (r : Option T)
+    → r ≡ None
     → Divides meaning a (InBounds x y) x y (Ok r) → (q : Passing a) → ¬ (a.ops.product q.0 y ≡ x)
 divides_none meaning a InBounds x y r e h = subst (λ t. Divides meaning a (InBounds x y) x y (Ok t)) e h
 

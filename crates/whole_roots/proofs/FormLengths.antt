@@ -4,13 +4,13 @@ use Rattle.std.proofs.Common.{ap, sym, ◌∙◌, ⊎_elim, arith}
 use Rattle.std.proofs.lemmas.Bool.{cases_lt}
 use Rattle.std.proofs.lemmas.List.{length-map}
 use Rattle.ring_laws.specs.Meaning.{number, listed, items, parted-joined}
-use Rattle.ring_laws.specs.Algebra.{Ops, RingLaws, Passing, within, same_passing}
+use Rattle.ring_laws.specs.Algebra.{Ops, RingLaws, Passing, same_passing}
 use Rattle.ring_laws.specs.WholeDomain.{whole_domain}
 use Rattle.ring_laws.specs.WholeLaws.{whole_laws}
-use Rattle.ring_laws.specs.Wholes.{whole_algebra, number_of}
+use Rattle.ring_laws.specs.Wholes.{whole_algebra}
 use Rattle.ring_laws.specs.declared.wholes.Whole.{Whole}
 use Rattle.poly_laws.specs.Lists.{coefficient_at, list_product, is_trimmed}
-use Rattle.poly_laws.proofs.Coefficients.{coefficients, poly_closed, meanings-coefficients, meanings_same, coefficients_trimmed}
+use Rattle.poly_laws.proofs.Coefficients.{meanings-coefficients, coefficients_trimmed}
 use Rattle.poly_laws.proofs.ListLaws.{sum_nought, product_nought, times_zero, times_suc}
 use Rattle.poly_laws.proofs.OneQuotient.{NoDivisors}
 use Rattle.poly_laws.proofs.PolyDomain.{no_divisors_within}
@@ -19,6 +19,7 @@ use Rattle.poly_laws.proofs.Trimming.{beyond, last_not}
 use Rattle.poly_divide.specs.Forms.{linear}
 use Rattle.whole_roots.specs.Differences.{polynomials}
 use Rattle.whole_roots.proofs.DifferenceLaws.{base, polynomial_of}
+use Rattle.whole_roots.proofs.FormParts.{poly, parts, whole, form_parts, slope_not}
 use Rattle.whole_roots.proofs.FormPowers.{form}
 use Rattle.whole_roots.proofs.Values.{count_is}
 
@@ -43,32 +44,16 @@ module _ {A : Type 0} (o : Ops A) (l : RingLaws o) where
       ⊎_elim n (last_not o l x xs ended) (none u (coefficient_at o (x ∷ xs) (length xs)) (sym product ∙ e))
 
 module _ (u : ℕ) (v : ℤ) (some : 1 ≤ u) (f q : Passing polynomials) (is : polynomials.ops.product q.0 (linear (pos u) v) ≡ f.0) where
-  abbrev poly : Ops (Passing polynomials)
-  poly = within polynomials (poly_closed whole_algebra whole_laws.closed)
-
-  abbrev pub parts : Passing polynomials → List (Passing whole_algebra)
-  parts x = coefficients whole_algebra whole_laws.closed x
-
   count : (x : Passing polynomials) → length (items x.0) ≡ length (parts x)
   count x = ap length (sym (meanings-coefficients whole_algebra whole_laws.closed x)) ∙ length-map (parts x) (λ (w : Passing whole_algebra). w.0)
 
-  pub form_parts : parts (form u v some) ≡ (number v, refl) ∷ (number (pos u), refl) ∷ []
-  form_parts = meanings_same whole_algebra whole_laws.closed (parts (form u v some)) ((number v, refl) ∷ (number (pos u), refl) ∷ [])
-      (meanings-coefficients whole_algebra whole_laws.closed (form u v some))
-
-  product_at : (k : ℕ) → coefficient_at base (parts f) k ≡ coefficient_at base (list_product base ((number v, refl) ∷ (number (pos u), refl) ∷ []) (parts q)) k
+  product_at : (k : ℕ) → coefficient_at base (parts f) k ≡ coefficient_at base (list_product base (whole v ∷ whole (pos u) ∷ []) (parts q)) k
   product_at k =
       ap (λ (x : Passing polynomials). coefficient_at base (parts x) k)
       (sym ((poly_ring whole_algebra whole_laws.closed whole_laws.ring).product_comm (form u v some) q
       ∙ same_passing polynomials (poly.product q (form u v some)) f is))
       ∙ coefficient-product whole_algebra whole_laws.closed whole_laws.ring (form u v some) q k
-      ∙ ap (λ t. coefficient_at base (list_product base t (parts q)) k) form_parts
-
-  pub slope_not : ¬ ((number (pos u), refl) ≡ base.nought)
-  slope_not e = absurd (omega (arith, some, zero_is u (ap (λ (x : Passing whole_algebra). number_of x.0) e)))
-    where
-      zero_is : (n : ℕ) → pos n ≡ pos 0 → n ≡ 0
-      zero_is n h = cc h
+      ∙ ap (λ t. coefficient_at base (list_product base t (parts q)) k) (form_parts u v some)
 
   pub shorter_quotient : ¬ (items f.0 ≡ []) → length (items q.0) < length (items f.0)
   shorter_quotient n = by (parts q) refl
@@ -84,16 +69,19 @@ module _ (u : ℕ) (v : ℤ) (some : 1 ≤ u) (f q : Passing polynomials) (is : 
           (λ (b : suc (length xs) < length (parts f)). omega (arith, count q, count f, ap length e, b))
           (λ (b : length (parts f) ≤ suc (length xs)).
           absurd (last_of_product base whole_laws.ring (no_divisors_within whole_algebra whole_laws.closed whole_domain)
-          (number v, refl) (number (pos u), refl) x xs slope_not
+          (whole v) (whole (pos u)) x xs (slope_not u v some)
           (ap (is_trimmed base) (sym e) ∙ coefficients_trimmed whole_algebra whole_laws.closed q)
-          (ap (λ t. coefficient_at base (list_product base ((number v, refl) ∷ (number (pos u), refl) ∷ []) t) (suc (length xs))) (sym e)
+          (ap (λ t. coefficient_at base (list_product base (whole v ∷ whole (pos u) ∷ []) t) (suc (length xs))) (sym e)
           ∙ sym (product_at (suc (length xs))) ∙ beyond base (parts f) (suc (length xs)) b)))
           (cases_lt (suc (length xs)) (length (parts f)))
 
 -- so has the list of a quotient
-pub shorter_list : (u : ℕ) (v : ℤ) → 1 ≤ u → (list next : List Whole) → IsTrue (is_trimmed whole_algebra.ops (map (λ (w : Whole). number w.value) list))
-    → IsTrue (is_trimmed whole_algebra.ops (map (λ (w : Whole). number w.value) next)) → ¬ (listed (map (λ (w : Whole). number w.value) list) ≡ listed [])
-    → polynomials.ops.product (listed (map (λ (w : Whole). number w.value) next)) (linear (pos u) v) ≡ listed (map (λ (w : Whole). number w.value) list)
+pub shorter_list : (u : ℕ) (v : ℤ) → 1 ≤ u → (list next : List Whole)
+    → IsTrue (is_trimmed whole_algebra.ops (map (λ (w : Whole). number w.value) list))
+    → IsTrue (is_trimmed whole_algebra.ops (map (λ (w : Whole). number w.value) next))
+    → ¬ (listed (map (λ (w : Whole). number w.value) list) ≡ listed [])
+    → polynomials.ops.product (listed (map (λ (w : Whole). number w.value) next)) (linear (pos u) v)
+    ≡ listed (map (λ (w : Whole). number w.value) list)
     → length next < length list
 shorter_list u v some list next ended short n is =
     let m = listed (map (λ (w : Whole). number w.value) list) in

@@ -34,7 +34,7 @@ module _ (u : ℕ) (v : ℤ) (some : 1 ≤ u) where
   form = (linear (pos u) v, form_passes u v some)
 
   form_not_nought : ¬ (form ≡ ring.nought)
-  form_not_nought e = cc (ap (λ (x : Passing polynomials). length (items x.0)) e)
+  form_not_nought e = absurd (omega (arith, ap (λ (x : Passing polynomials). length (items x.0)) e))
 
   power_passes : (e : ℕ) → IsTrue (polynomials.passes (form_power u v e))
   power_passes zero = laws.closed.unit
@@ -47,7 +47,8 @@ module _ (u : ℕ) (v : ℤ) (some : 1 ≤ u) where
   times_none f = ap (λ (x : Passing polynomials). x.0) (laws.ring.product_comm f ring.unit ∙ laws.ring.unit_product f)
 
   times_more : (r : Passing polynomials) (e : ℕ)
-      → polynomials.ops.product r.0 (form_power u v (suc e)) ≡ polynomials.ops.product (polynomials.ops.product r.0 (form_power u v e)) (linear (pos u) v)
+      → polynomials.ops.product r.0 (form_power u v (suc e))
+      ≡ polynomials.ops.product (polynomials.ops.product r.0 (form_power u v e)) (linear (pos u) v)
   times_more r e = sym (ap (λ (x : Passing polynomials). x.0) (laws.ring.product_assoc r (power e) form))
 
   module _ (f q : Passing polynomials) (is : polynomials.ops.product q.0 (linear (pos u) v) ≡ f.0) where
@@ -98,3 +99,6 @@ module _ (u : ℕ) (v : ℤ) (some : 1 ≤ u) where
   pub one_division : (f : Passing polynomials) (d : PowerDivides u v 1 f.0) → polynomials.ops.product d.quotient.0 (linear (pos u) v) ≡ f.0
   one_division f d =
       ap (λ (m : Meaning). polynomials.ops.product m (linear (pos u) v)) (sym (times_none d.quotient)) ∙ sym (times_more d.quotient 0) ∙ d.is
+
+  pub one_power : (f q : Passing polynomials) → polynomials.ops.product q.0 (linear (pos u) v) ≡ f.0 → PowerDivides u v 1 f.0
+  one_power f q is = record { quotient = q; is = step_out f q is 0 q (times_none q) }

@@ -10,9 +10,14 @@ mod DifferenceBounds
 mod Faults
 mod RootBounds
 mod FormPowers
+mod Coprime
 mod FactorLists
 mod FactorRoots
 mod FactorSteps
+mod NextParts
+mod RootFactors
+mod FormParts
 mod FormLengths
 mod Stretching
 mod KnownRoots
+mod KnownFactors

@@ -28,7 +28,8 @@ too_large_later n (pos u) t power h b small =
     let grows : u ^ suc t ≤ u ^ power = pow-le-pow_right (omega (arith, ints, h)) b in
     let more : unsigned_abs n * u ^ suc t ≤ unsigned_abs n * u ^ power = mul-le-mul_left (unsigned_abs n) grows in
     let first : unsigned_abs (n *ℤ pos (u ^ t)) * u ≡ unsigned_abs n * u ^ suc t =
-    ap (λ (m : ℕ). m * u) (unsigned_abs-mul n (pos (u ^ t))) ∙ mul_assoc (unsigned_abs n) (u ^ t) u ∙ ap (λ (m : ℕ). unsigned_abs n * m) (sym (pow-suc u t)) in
+    ap (λ (m : ℕ). m * u) (unsigned_abs-mul n (pos (u ^ t))) ∙ mul_assoc (unsigned_abs n) (u ^ t) u
+    ∙ ap (λ (m : ℕ). unsigned_abs n * m) (sym (pow-suc u t)) in
     omega (arith, first, more, unsigned_abs-mul n (pos (u ^ power)), small)
 too_large_later n (negsuc u) t power h b small = absurd (omega (arith, ints, h))
 
@@ -73,4 +74,4 @@ stretched_ended u (w ∷ x ∷ xs) h = stretched_ended u (x ∷ xs) h
 pub stretched_not_zero : (u : ℕ) (ws : List Whole) (g : Meaning) → g ≡ stretched u (listed (numbers ws)) → ¬ (listed (numbers ws) ≡ listed [])
     → ¬ (g ≡ listed [])
 stretched_not_zero u [] g e n h = n refl
-stretched_not_zero u (w ∷ ws) g e n h = cc (ap (λ (m : Meaning). length (items m)) (sym e ∙ h))
+stretched_not_zero u (w ∷ ws) g e n h = absurd (omega (arith, ap (λ (m : Meaning). length (items m)) (sym e ∙ h)))

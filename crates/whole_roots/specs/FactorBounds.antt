@@ -1,5 +1,5 @@
 -- When the search for the linear factors of a polynomial is in bounds.
-use Rattle.std.specs.Prelude.{◌≡◌, ℕ, ◌≤◌, ◌^◌, ℤ, pos, ◌*ℤ◌, neg_ℤ, List, [], ◌∷◌, length, ⊤}
+use Rattle.std.specs.Prelude.{◌≡◌, ℕ, ◌≤◌, ◌^◌, ℤ, pos, ◌*ℤ◌, List, [], ◌∷◌, length, ⊤}
 use Rattle.ring_laws.specs.Meaning.{Meaning, number, listed, items}
 use Rattle.ring_laws.specs.Algebra.{Passing}
 use Rattle.ring_laws.specs.Wholes.{number_of, whole_algebra}
@@ -7,8 +7,7 @@ use Rattle.poly_laws.specs.Lists.{coefficient_at}
 use Rattle.poly_laws.specs.LongDivision.{DivisionInBounds}
 use Rattle.poly_divide.specs.Forms.{linear}
 use Rattle.whole_roots.specs.Differences.{polynomials, DifferencesInBounds}
-use Rattle.whole_roots.specs.LinearFactors.{IsProfileForm, form_power}
-use Rattle.whole_roots.specs.Roots.{IsRoot}
+use Rattle.whole_roots.specs.LinearFactors.{IsProfileForm, form_power, PowerDivides}
 
 -- f_i * u^(degree - i) for each i
 abbrev pub stretched_list : ℕ → List Meaning → List Meaning
@@ -30,5 +29,5 @@ pub record FactorsInBounds (f : Meaning) : Type 0 where
   pub numbers : (u : ℕ) → 1 ≤ u → u ≤ 4 → (k : ℕ) → whole_algebra.ops.Fits (coefficient_at whole_algebra.ops (stretched_list u (items f)) k)
   -- and so do the differences of their list
   pub differences : (u : ℕ) → 1 ≤ u → u ≤ 4 → DifferencesInBounds (stretched u f)
-  -- and each division of f by a form whose root is one of f
-  pub divisions : (u : ℕ) (v : ℤ) → IsProfileForm u v → IsRoot (stretched u f) (neg_ℤ v) → DivisionsInBounds u v f
+  -- and each division of f by one of its factors
+  pub divisions : (u : ℕ) (v : ℤ) → IsProfileForm u v → PowerDivides u v 1 f → DivisionsInBounds u v f

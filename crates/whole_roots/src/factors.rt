@@ -1,4 +1,6 @@
 //! The linear factors of a polynomial, with their powers.
+//!
+//! Where `u*n + v` divides f, -v is a whole root of `u^degree * f(n/u)`.
 
 ghost use Rattle.std.specs.Prelude.{◌≡◌, ◌≢◌, ◌+◌, ◌≤◌, ◌<◌, ◌^◌, pos, neg_ℤ, ◌*ℤ◌, ◌≤ℤ◌, unsigned_abs, [], IfOk, IfErr, OnOk, ℕ, ℤ};
 ghost use Rattle.std.specs.List.{AllByRecursion};
@@ -121,7 +123,7 @@ fn push_factors(
 /// rising u, and then rising v.
 ///
 /// `TooLarge` comes only where, for some u from 1 to 4, a number of the list `f_i * u^(degree - i)` or one of its iterated differences
-/// is out of bounds, or a step of the division of f by such a form, as often as it goes.
+/// is out of bounds, or a step of a division by a factor, which is divided out of f as often as it goes, and once more.
 pub fn linear_factors(alloc: Global, f: &Zn) -> Result<IndexMap<(u8, i128), u32>, RingFault>
     requires not_zero { ⟦<Zn as Ring>⟧.meaning f.now ≢ listed [] }
     ensures factors { IfOk result (λ factors. AreLinearFactors (⟦<Zn as Ring>⟧.meaning f.now) factors.entries) }

@@ -51,7 +51,8 @@ loop-quotient-smaller c =
     shorter_list c.args.slope at c.requires.slope list c.in-Some.next.list.items c.loop-quotient.quotient.ended c.in-Some.next.ended
     c.loop-quotient.invariant.not_zero
     (divides_some (λ (p : Poly _ _). listed (map (λ (w : Whole). number w.value) p.list.items)) polynomials
-    (DivisionInBounds whole_algebra (λ (x y : Meaning). ⊤)) (listed (map (λ (w : Whole). number w.value) list)) (linear (pos c.args.slope) at) c.in_ok-next.field-0 c.in-Some.next c.in-Some.is c.in_ok-next.ensures.divides)
+    (DivisionInBounds whole_algebra (λ (x y : Meaning). ⊤)) (listed (map (λ (w : Whole). number w.value) list)) (linear (pos c.args.slope) at)
+    c.in_ok-next.field-0 c.in-Some.next c.in-Some.is c.in_ok-next.ensures.divides)
 
 -- one division more
 pub loop-quotient-preserved : goal.loop-quotient-preserved
@@ -63,8 +64,10 @@ loop-quotient-preserved c =
     let q : Passing polynomials = polynomial_of list c.loop-quotient.quotient.ended in
     let r : Passing polynomials = polynomial_of c.in-Some.next.list.items c.in-Some.next.ended in
     let is = divides_some (λ (p : Poly _ _). listed (map (λ (w : Whole). number w.value) p.list.items)) polynomials
-    (DivisionInBounds whole_algebra (λ (x y : Meaning). ⊤)) (listed (map (λ (w : Whole). number w.value) list)) (linear (pos c.args.slope) at) c.in_ok-next.field-0 c.in-Some.next c.in-Some.is c.in_ok-next.ensures.divides in
-    let fewer = shorter_list c.args.slope at c.requires.slope list c.in-Some.next.list.items c.loop-quotient.quotient.ended c.in-Some.next.ended i.not_zero is in
+    (DivisionInBounds whole_algebra (λ (x y : Meaning). ⊤)) (listed (map (λ (w : Whole). number w.value) list)) (linear (pos c.args.slope) at)
+    c.in_ok-next.field-0 c.in-Some.next c.in-Some.is c.in_ok-next.ensures.divides in
+    let fewer = shorter_list c.args.slope at c.requires.slope list c.in-Some.next.list.items c.loop-quotient.quotient.ended
+    c.in-Some.next.ended i.not_zero is in
     record {
       not_zero = quotient_not_zero c.args.slope at c.requires.slope q r is i.not_zero;
       fewer = omega (arith, i.fewer, fewer);
@@ -83,4 +86,5 @@ returns-clause-power c =
     (subst (λ (n : ℕ). IsGreatestPower c.args.slope at n m) (omega arith)
     (c.loop-quotient.invariant.power 0 (greatest_none c.args.slope at c.requires.slope q
     (divides_none (λ (p : Poly _ _). listed (map (λ (w : Whole). number w.value) p.list.items)) polynomials
-    (DivisionInBounds whole_algebra (λ (x y : Meaning). ⊤)) q.0 (linear (pos c.args.slope) at) c.in_ok-next.field-0 c.in_default.is c.in_ok-next.ensures.divides))))
+    (DivisionInBounds whole_algebra (λ (x y : Meaning). ⊤)) q.0 (linear (pos c.args.slope) at)
+    c.in_ok-next.field-0 c.in_default.is c.in_ok-next.ensures.divides))))

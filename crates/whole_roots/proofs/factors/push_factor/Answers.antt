@@ -1,5 +1,5 @@
-use Rattle.std.proofs.Common.{◌++◌, ◌∷◌, [], ℕ, ℤ, inl, inr, refl, sym, ◌∙◌, ap, subst, map, unsigned_abs, arith}
-use Rattle.std.specs.Int.{w128, IsGcd}
+use Rattle.std.proofs.Common.{◌++◌, ◌∷◌, [], ℤ, inl, inr, refl, sym, ◌∙◌, ap, subst, map, unsigned_abs, arith}
+use Rattle.std.specs.Int.{w128}
 use Rattle.std.proofs.Common.{to_z, of_z}
 use Rattle.std.specs.List.{AllByRecursion}
 use Rattle.std.proofs.lemmas.Int.{to_z-of_z}
@@ -15,10 +15,11 @@ use Rattle.whole_roots.proofs.factors.push_factor.Goals as goal
 pub returns-then-gcd_whole-ne1-clause-adds : goal.returns-then-gcd_whole-ne1-clause-adds
 returns-then-gcd_whole-ne1-clause-adds c =
     let sizes = c.unsigned_abs.ensures.value ∙ ap unsigned_abs (to_z-of_z w128 c.args.constant c.ranges.constant) in
-    let gcd : IsGcd c.args.slope (unsigned_abs c.args.constant) c.gcd_whole.result =
-    subst (λ (n : ℕ). IsGcd n (unsigned_abs c.args.constant) c.gcd_whole.result) c.from.ensures
-    (subst (λ (n : ℕ). IsGcd c.from.result n c.gcd_whole.result) sizes c.gcd_whole.ensures.greatest) in
-    inl (refl, λ form. absurd (no_profile_form c.args.slope c.args.constant c.gcd_whole.result gcd c.if-gcd_whole-ne1.true form))
+    inl (
+      refl,
+      λ form. absurd (no_profile_form c.args.slope c.args.constant c.from.result c.unsigned_abs.result c.gcd_whole.result
+          c.gcd_whole.ensures.greatest c.from.ensures sizes c.if-gcd_whole-ne1.true form),
+    )
 
 -- a division
 pub returns-in_err-power-clause-too_large : goal.returns-in_err-power-clause-too_large
@@ -26,10 +27,8 @@ returns-in_err-power-clause-too_large c =
     let m = listed (map (λ (w : Whole). number w.value) c.args.f.now.list.items) in
     let at = to_z-of_z w128 c.args.constant c.ranges.constant in
     let sizes = c.unsigned_abs.ensures.value ∙ ap unsigned_abs at in
-    let gcd : IsGcd c.args.slope (unsigned_abs c.args.constant) c.gcd_whole.result =
-    subst (λ (n : ℕ). IsGcd n (unsigned_abs c.args.constant) c.gcd_whole.result) c.from.ensures
-    (subst (λ (n : ℕ). IsGcd c.from.result n c.gcd_whole.result) sizes c.gcd_whole.ensures.greatest) in
-    let form = profile_form c.args.slope c.args.constant c.gcd_whole.result c.requires.from_one c.requires.to_four gcd c.if-gcd_whole-ne1.false in
+    let form = profile_form c.args.slope c.args.constant c.from.result c.unsigned_abs.result c.gcd_whole.result c.gcd_whole.ensures.greatest
+    c.from.ensures sizes c.requires.from_one c.requires.to_four c.if-gcd_whole-ne1.false in
     fault_with c.from_residual.result c.in_err-power.field-0.0 c.from_residual.ensures.1
     (λ h. (form, subst (λ (z : ℤ). ¬ (DivisionsInBounds c.args.slope z m)) at h)) c.in_err-power.ensures.too_large
 
@@ -39,10 +38,8 @@ returns-in_ok-insert-clause-adds c =
     let m = listed (map (λ (w : Whole). number w.value) c.args.f.now.list.items) in
     let at = to_z-of_z w128 c.args.constant c.ranges.constant in
     let sizes = c.unsigned_abs.ensures.value ∙ ap unsigned_abs at in
-    let gcd : IsGcd c.args.slope (unsigned_abs c.args.constant) c.gcd_whole.result =
-    subst (λ (n : ℕ). IsGcd n (unsigned_abs c.args.constant) c.gcd_whole.result) c.from.ensures
-    (subst (λ (n : ℕ). IsGcd c.from.result n c.gcd_whole.result) sizes c.gcd_whole.ensures.greatest) in
-    let form = profile_form c.args.slope c.args.constant c.gcd_whole.result c.requires.from_one c.requires.to_four gcd c.if-gcd_whole-ne1.false in
+    let form = profile_form c.args.slope c.args.constant c.from.result c.unsigned_abs.result c.gcd_whole.result c.gcd_whole.ensures.greatest
+    c.from.ensures sizes c.requires.from_one c.requires.to_four c.if-gcd_whole-ne1.false in
     inr (
       c.in_ok-power.power,
       c.in_ok-insert.ensures.entries

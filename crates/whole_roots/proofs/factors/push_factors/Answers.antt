@@ -15,6 +15,7 @@ use Rattle.whole_roots.proofs.DifferenceLaws.{polynomial_of}
 use Rattle.whole_roots.proofs.FactorRoots.{factor_gives_root}
 use Rattle.whole_roots.proofs.FactorSteps.{SeenAt, root_at_small, root_at, roots_from_index, root_below, no_root_yet, comes_last, root_added, all_roots_seen, twice_negative}
 use Rattle.whole_roots.proofs.Faults.{fault_with}
+use Rattle.whole_roots.proofs.RootFactors.{root_gives_factor}
 use Rattle.whole_roots.proofs.Stretching.{stretched_not_zero}
 use Rattle.whole_roots.proofs.factors.push_factors.Goals as goal
 
@@ -95,7 +96,7 @@ loop-left-preserved c =
           i.found);
     }
 
--- a division by a form whose root is one
+-- a division by a form that gives a root, and so divides f
 pub returns-in_err-push_factor-clause-too_large : goal.returns-in_err-push_factor-clause-too_large
 returns-in_err-push_factor-clause-too_large c =
     let m = listed (map (λ (w : Whole). number w.value) c.args.f.now.list.items) in
@@ -106,12 +107,15 @@ returns-in_err-push_factor-clause-too_large c =
     let inside : left - 1 < length roots = omega (arith, c.loop-left-test.true, c.loop-left.invariant.within) in
     let not_zero = stretched_not_zero c.args.slope c.args.f.now.list.items _ c.in_ok-stretched.ensures.gives c.requires.not_zero in
     let small = root_at_small g.list.items roots g.ended not_zero c.in_ok-roots.ensures.roots (left - 1) root inside c.index.ensures in
+    let f : Passing polynomials = polynomial_of c.args.f.now.list.items c.args.f.now.ended in
+    let constant = to_z w128 (of_z w128 (pos 0 -ℤ to_z w128 (of_z w128 root))) in
     fault_with c.from_residual-in_err-push_factor.result c.in_err-push_factor.field-0.0 c.from_residual-in_err-push_factor.ensures.1
     (λ h (b : FactorsInBounds m).
-    h.1 (b.divisions c.args.slope (to_z w128 (of_z w128 (pos 0 -ℤ to_z w128 (of_z w128 root)))) h.0
+    h.1 (b.divisions c.args.slope constant h.0 (root_gives_factor c.args.slope constant h.0 f
     (subst (λ (z : ℤ). IsRoot (stretched c.args.slope m) z) (sym (twice_negative root _ (held_negative root small)))
-    (subst (λ (x : Meaning). IsRoot x root) c.in_ok-stretched.ensures.gives (root_at roots left root c.loop-left-test.true c.loop-left.invariant.within
-    c.index.ensures _ c.in_ok-roots.ensures.roots)))))
+    (subst (λ (x : Meaning). IsRoot x root) c.in_ok-stretched.ensures.gives
+    (root_at roots left root c.loop-left-test.true c.loop-left.invariant.within
+    c.index.ensures _ c.in_ok-roots.ensures.roots))))))
     c.in_err-push_factor.ensures.too_large
 
 -- all roots are listed, and each factor of the slope gives one
