@@ -107,6 +107,10 @@ fn parts_of_a_value(rt: HostRuntime) -> Result<(), RingFault> {
         let plain = polynomial(alloc, plain)?;
         assert!(rt; has_parts(alloc, &value, &plain, &polynomial(alloc, core)?)?);
     }
+    // 2^126 * (n - 1)^2 * (n^2 + n + 1), whose plain part would have the number -2^127
+    let large = polynomial(alloc, &[1 << 126, -(1 << 126), 0, -(1 << 126), 1 << 126])?;
+    let core = polynomial(alloc, &[1, 1, 1])?;
+    assert!(rt; has_parts(alloc, &large, &large, &core).is_err());
     assert_eq!(rt; polynomial(alloc, &[0, 0, 5])?.weight(), 2);
     assert_eq!(rt; polynomial(alloc, &[])?.weight(), 0);
     Ok(())
