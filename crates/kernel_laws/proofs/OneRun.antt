@@ -123,8 +123,7 @@ module _ (a : Algebra) (l : Laws a) (dl : DomainLaws a) (r : Reduction) (rl : Re
       let p : Passing a = (plain, s.plain_passes) in
       let q : Passing a = (core, s.core_passes) in
       let isnt : ¬ (a.ops.product plain core ≡ a.ops.nought) = λ e.
-      not_both (a.ops.is_nought x) n (subst (λ m. IsTrue (a.ops.is_nought m)) (sym e ∙ s.is) ((l.ring.is_nought W.nought).1 refl)) in
-      (
+      not_both (a.ops.is_nought x) n (subst (λ m. IsTrue (a.ops.is_nought m)) (sym e ∙ s.is) ((l.ring.is_nought W.nought).1 refl)) in (
         (s.plain_passes, λ e. isnt (ap (λ m. a.ops.product m core) e ∙ ap (λ (v : Passing a). v.0) (nought_product W l.ring q))),
         (s.core_passes, λ e. isnt (ap (a.ops.product plain) e ∙ ap (λ (v : Passing a). v.0) (product_nought W l.ring p))),
       )
