@@ -11,3 +11,4 @@ mod ReducedRows
 mod Leads
 mod Cores
 mod KnownRows
+mod CommonForms

@@ -47,7 +47,7 @@ pub entry_is : (row : List Zn) (place : ℕ) (f : Zn) → IsLeast (senses row) p
 entry_is row place f h e = at_item polynomials.ops sense row place f (place_within row place h) e
 
 -- ---- the factors of an entry
-entry_of_times : (t : Meaning) (row : Row) (k : ℕ) → k < length row
+pub entry_of_times : (t : Meaning) (row : Row) (k : ℕ) → k < length row
     → entry_at polynomials.ops (times_row polynomials t row) k ≡ polynomials.ops.product (get_or row k P.nought).0 t
 entry_of_times t [] k b = absurd (omega arith)
 entry_of_times t (x ∷ xs) zero b = refl

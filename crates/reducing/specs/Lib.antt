@@ -8,3 +8,4 @@ pub mod FactorLists
 pub mod PolynomialLaws
 pub mod SplitLaws
 pub mod PolynomialAnswers
+pub mod CommonForms

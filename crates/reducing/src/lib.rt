@@ -8,12 +8,14 @@
 
 mod domains;
 mod factors_out;
+mod laws;
 mod least_entries;
 mod polynomial_rows;
 mod row_contents;
 mod whole_rows;
 
 pub use domains::Reducing;
+pub use laws::no_form_is_left;
 
 #[cfg(test)]
 mod tests;
