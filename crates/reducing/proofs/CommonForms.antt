@@ -1,18 +1,17 @@
 -- No form divides every entry of a reduced row: those that divide the least entry were taken out.
-use Rattle.std.specs.Prelude.{ℕ, zero, suc, ◌<◌, ◌≤◌, ℤ, pos, List, [], ◌∷◌, map, length, get_or}
+use Rattle.std.specs.Prelude.{ℕ, ◌<◌, ◌≤◌, ℤ, pos, List, [], ◌∷◌, length, get_or}
 use Rattle.std.specs.List.{AllByRecursion}
 use Rattle.std.proofs.Common.{◌≡◌, ap, sym, ◌∙◌, subst, arith, ⊎_elim}
 use Rattle.std.proofs.lemmas.List.{length-map}
 use Rattle.ring_laws.specs.Meaning.{Meaning}
 use Rattle.ring_laws.specs.Algebra.{Passing, same_passing}
-use Rattle.poly_divide.specs.Content.{row_sizes, IsContent}
 use Rattle.poly_divide.specs.Forms.{linear}
 use Rattle.whole_roots.specs.Differences.{polynomials}
 use Rattle.whole_roots.specs.LinearFactors.{Entry, IsLinearFactor, IsProfileForm, PowerDivides, HasForm}
 use Rattle.kernel_laws.specs.Rows.{entry_at}
-use Rattle.reducing.specs.TakenOut.{times_row, TakenOut, AllTakenOut, none, next}
+use Rattle.reducing.specs.TakenOut.{times_row, AllTakenOut, next}
 use Rattle.reducing.specs.TakenOutLaws.{scaled, scaled_is, is_scaled, scaled_twice, Multiple, all_taken_out_multiple}
-use Rattle.reducing.specs.PolynomialRows.{Row, meant, FactorsOfLeast, forms, Reduced, stays, divides, PolynomialsReduced}
+use Rattle.reducing.specs.PolynomialRows.{Row, meant, forms, Reduced, stays, divides, PolynomialsReduced}
 use Rattle.reducing.specs.FactorLists.{laws, domain, P, linear_is_factor, forms_are_factors}
 use Rattle.reducing.specs.CommonForms.{HasNoCommonForm, IsSomeNonzero}
 use Rattle.reducing.proofs.ReducedRows.{entry_of_times}

@@ -9,5 +9,4 @@ ghost use Rattle.reducing.specs.CommonForms.{HasNoCommonForm, IsSomeNonzero};
 /// v above 1 divides every entry.
 pub fn no_form_is_left()
     ensures law { (old new : List Meaning) → PolynomialsReduced old new → IsSomeNonzero new → HasNoCommonForm new }
-{
-}
+{}
