@@ -22,7 +22,8 @@ times t row = scaled polynomials laws domain t row
 -- a multiple of a multiple of t is one of t
 multiple_of : (t f : Passing polynomials) (rest : Row) → times f (times t rest) ≡ times t (times f rest)
 multiple_of t f rest =
-    scaled_twice polynomials laws domain f t rest ∙ ap (λ s. times s rest) (laws.ring.product_comm t f) ∙ sym (scaled_twice polynomials laws domain t f rest)
+    scaled_twice polynomials laws domain f t rest ∙ ap (λ s. times s rest) (laws.ring.product_comm t f)
+    ∙ sym (scaled_twice polynomials laws domain t f rest)
 
 -- a form of the list divides what is left no more
 none_left : (f : Meaning) (xs : List Entry) (u : ℕ) (v : ℤ) (b : 1 ≤ u) → AllByRecursion (IsLinearFactor f) xs → (old new : Row)

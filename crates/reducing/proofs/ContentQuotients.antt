@@ -19,10 +19,10 @@ use Rattle.poly_divide.specs.Content.{sizes_of, DividesAll}
 use Rattle.whole_roots.specs.Differences.{polynomials}
 use Rattle.reducing.proofs.Polynomials.{Zn, sense, sense_passes}
 
-abbrev o : Ops (Passing whole_algebra)
+abbrev pub o : Ops (Passing whole_algebra)
 o = within whole_algebra whole_laws.closed
 
-abbrev polys : Ops (Passing polynomials)
+abbrev pub polys : Ops (Passing polynomials)
 polys = within polynomials (poly_closed whole_algebra whole_laws.closed)
 
 abbrev numbers : List Whole → List Meaning
@@ -35,7 +35,7 @@ belonging_are : (ws : List Whole) → meanings_of whole_algebra whole_laws.close
 belonging_are [] = refl
 belonging_are (w ∷ ws) = ap (λ t. number w.value ∷ t) (belonging_are ws)
 
-abbrev parts : Passing polynomials → List (Passing whole_algebra)
+abbrev pub parts : Passing polynomials → List (Passing whole_algebra)
 parts x = coefficients whole_algebra whole_laws.closed x
 
 items_are : (x : Passing polynomials) (xs : List Meaning) → x.0 ≡ listed xs → items x.0 ≡ xs
@@ -79,7 +79,7 @@ single : (x : Passing whole_algebra) (ys : List (Passing whole_algebra)) (k : �
 single x ys zero = times_zero o whole_laws.ring x [] ys
 single x ys (suc k) = times_suc o whole_laws.ring x [] ys k ∙ sum_nought o whole_laws.ring (o.product x (coefficient_at o ys (suc k)))
 
-by_number : (d : ℤ) (q : Passing polynomials) (k : ℕ)
+pub by_number : (d : ℤ) (q : Passing polynomials) (k : ℕ)
     → coefficient_at o (parts (polys.product q (polys.whole d))) k ≡ o.product (o.whole d) (coefficient_at o (parts q) k)
 by_number d q k =
     coefficient-product whole_algebra whole_laws.closed whole_laws.ring q (polys.whole d) k

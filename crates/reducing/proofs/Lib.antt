@@ -12,3 +12,4 @@ mod Leads
 mod Cores
 mod KnownRows
 mod CommonForms
+mod CommonNumbers

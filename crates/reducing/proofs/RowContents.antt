@@ -18,11 +18,11 @@ use Rattle.reducing.specs.FactorLists.{laws, P}
 use Rattle.reducing.specs.PolynomialAnswers.{LeastOf}
 use Rattle.reducing.proofs.Polynomials.{Zn, sense, sense_passes, senses}
 
-first_part : (d : ℕ) (xs ys : List ℕ) → DividesAll d (xs ++ ys) → DividesAll d xs
+pub first_part : (d : ℕ) (xs ys : List ℕ) → DividesAll d (xs ++ ys) → DividesAll d xs
 first_part d [] ys h = tt
 first_part d (x ∷ xs) ys h = (h.0, first_part d xs ys h.1)
 
-last_part : (d : ℕ) (xs ys : List ℕ) → DividesAll d (xs ++ ys) → DividesAll d ys
+pub last_part : (d : ℕ) (xs ys : List ℕ) → DividesAll d (xs ++ ys) → DividesAll d ys
 last_part d [] ys h = h
 last_part d (x ∷ xs) ys h = last_part d xs ys h.1
 

@@ -73,7 +73,8 @@ opposite : (f : Passing polynomials) (x y : Meaning) → x ≡ f.0 → y ≡ pol
 opposite f x y d e h k = omega (arith, ints, h, k, ap lead_number d, ap lead_number e, lead_negative f)
 
 one_core : (x core other : Meaning) → IsCore x core → IsCore x other → core ≡ other
-one_core x core other h k = ⊎_elim (λ d. ⊎_elim (both_same d) (first_same d) k.core_is) (λ d. ⊎_elim (last_same d) (both_negative d) k.core_is) h.core_is
+one_core x core other h k =
+    ⊎_elim (λ d. ⊎_elim (both_same d) (first_same d) k.core_is) (λ d. ⊎_elim (last_same d) (both_negative d) k.core_is) h.core_is
   where
     values : k.value ≡ h.value
     values = same_passing polynomials k.value h.value (sym k.value_is ∙ h.value_is)

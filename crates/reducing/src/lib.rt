@@ -16,7 +16,7 @@ mod row_contents;
 mod whole_rows;
 
 pub use domains::Reducing;
-pub use laws::no_form_is_left;
+pub use laws::{no_content_is_left, no_form_is_left};
 
 #[cfg(test)]
 mod tests;

@@ -34,7 +34,8 @@ returns-in-None c =
           (subst (λ r. Divides sense polynomials (DivisionOfPolynomials (sense c.entry-item.result) t) (sense c.entry-item.result) t (Ok r))
           c.in-None.is
           (subst (λ v. Divides sense polynomials (DivisionOfPolynomials (sense c.entry-item.result) (linear (pos c.args.u) v))
-          (sense c.entry-item.result) (linear (pos c.args.u) v) (Ok c.in_ok-quotient.field-0)) (to_z-of_z w128 c.args.v c.ranges.v) c.in_ok-quotient.ensures.divides));
+          (sense c.entry-item.result) (linear (pos c.args.u) v) (Ok c.in_ok-quotient.field-0))
+          (to_z-of_z w128 c.args.v c.ranges.v) c.in_ok-quotient.ensures.divides));
     }
 
 pub returns : goal.returns
