@@ -1,5 +1,5 @@
 -- What elimination answers.
-use Rattle.std.specs.Prelude.{ℕ, List, map, Result, Ok, Err, Vec, ⊤}
+use Rattle.std.specs.Prelude.{◌≡◌, ℕ, List, map, Result, Ok, Err, Vec, ⊤}
 use Rattle.either.specs.declared.Either.{Either}
 use Rattle.either.specs.declared.Either.TheVariants.{Left, Right}
 use Rattle.ring_laws.specs.Meaning.{Meaning}
@@ -26,6 +26,14 @@ abbrev pub IsByTheSteps : {T : Type 0} → (T → Meaning) → (a : Algebra) →
 IsByTheSteps meaning a r columns rows (Ok (Left kernel)) = VectorOf a r columns rows kernel.free (map meaning kernel.vector.items)
 IsByTheSteps meaning a r columns rows (Ok (Right pivots)) = ⊤
 IsByTheSteps meaning a r columns rows (Err fault) = ⊤
+
+-- and no other vector is given by them there
+abbrev pub IsOnlyByTheSteps : {T : Type 0} → (T → Meaning) → (a : Algebra) → Reduction → (columns : ℕ) → List (List Meaning)
+    → Result (Either (Kernel T) Pivots) RingFault → Type 0
+IsOnlyByTheSteps meaning a r columns rows (Ok (Left kernel)) =
+    (other : List Meaning) → VectorOf a r columns rows kernel.free other → other ≡ map meaning kernel.vector.items
+IsOnlyByTheSteps meaning a r columns rows (Ok (Right pivots)) = ⊤
+IsOnlyByTheSteps meaning a r columns rows (Err fault) = ⊤
 
 -- P holds of the vectors
 abbrev pub AnswersBasis : {T Z : Type 0} → (T → Meaning) → (List (List Meaning) → Type 0) → Result (Vec (Vec T Z) Z) RingFault → Type 0

@@ -1,11 +1,12 @@
 //! A vector of the kernel, or the rank; and a basis of the kernel.
 
-ghost use Rattle.std.specs.Prelude.{◌≡◌, ◌<◌, ◌≤◌, length, map, All, MatchOption, ℕ};
+ghost use Rattle.std.specs.Prelude.{◌≡◌, ◌<◌, ◌≤◌, length, map, List, All, MatchOption, ℕ};
+ghost use Rattle.ring_laws.specs.Meaning.{Meaning};
 ghost use Rattle.kernel_laws.specs.Pivots.{IsPivotColumn};
 ghost use Rattle.kernel_laws.specs.Answers.{Basis, VectorsOf, IsFreeColumn, IsFirstFree, StepsInBounds};
 ghost use Rattle.fraction_free.specs.RowAnswers.{rows_meant, GivesRows};
 ghost use Rattle.fraction_free.specs.RoundAnswers.{pivots_meant};
-ghost use Rattle.fraction_free.specs.KernelAnswers.{Eliminates, IsByTheSteps, AnswersBasis};
+ghost use Rattle.fraction_free.specs.KernelAnswers.{Eliminates, IsByTheSteps, IsOnlyByTheSteps, AnswersBasis};
 
 use crate::rounds::{PivotRow, is_pivot, pivot_rows};
 use crate::vectors::free_vector;
@@ -64,8 +65,9 @@ pub fn eliminate<R: Reducing>(
         (StepsInBounds R.division_in_bounds R.algebra R.reduction columns (IsFirstFree columns first) (rows_meant R.meaning rows.items))
         result }
 
-    // The vector is one that the steps give.
+    // The vector is the one that the steps give.
     ensures steps { IsByTheSteps R.meaning R.algebra R.reduction columns (rows_meant R.meaning rows.items) result }
+    ensures only { IsOnlyByTheSteps R.meaning R.algebra R.reduction columns (rows_meant R.meaning rows.items) result }
 {
     let width = columns as usize;
     let pivots = pivot_rows(alloc, rows, width)?;
@@ -98,8 +100,11 @@ pub fn kernel_basis<R: Reducing>(
         (StepsInBounds R.division_in_bounds R.algebra R.reduction columns (IsFreeColumn columns) (rows_meant R.meaning rows.items))
         result }
 
-    // The vectors are such that the steps give them.
+    // The vectors are those that the steps give.
     ensures steps { AnswersBasis R.meaning (VectorsOf R.algebra R.reduction columns (rows_meant R.meaning rows.items)) result }
+    ensures only { AnswersBasis R.meaning
+        (λ vectors. (others : List (List Meaning)) → VectorsOf R.algebra R.reduction columns (rows_meant R.meaning rows.items) others → others ≡ vectors)
+        result }
 {
     let width = columns as usize;
     let pivots = pivot_rows(alloc, rows, width)?;

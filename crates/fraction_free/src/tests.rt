@@ -1,28 +1,42 @@
 ghost use Rattle.std.specs.Prelude.{◌≡◌, IsTrue, All, length};
 
-use crate::{eliminate, kernel_basis};
+use crate::{Reducing, eliminate, kernel_basis};
 use either::Either;
-use ring_laws::{RingFault, Whole};
+use poly_generic::{Poly, Zn};
+use ring_laws::{Ring, RingFault, Whole};
 use std::alloc::Global;
+
+fn numbers(alloc: Global, values: &[i128]) -> Result<Vec<Whole>, RingFault> {
+    let mut list = Vec::new(alloc);
+    for value in values {
+        list.push(Whole::new(*value).ok_or(RingFault::TooLarge)?)?;
+    }
+    Ok(list)
+}
 
 // The rows of a table of numbers, each of the width; `TooLarge` for a row of another length.
 fn rows_of(alloc: Global, table: &[&[i128]], width: usize) -> Result<Vec<Vec<Whole>>, RingFault> {
     let mut rows = Vec::new(alloc);
-    for numbers in table {
-        if numbers.len() != width {
+    for values in table {
+        if values.len() != width {
             return Err(RingFault::TooLarge);
         }
-        let mut row = Vec::new(alloc);
-        for number in *numbers {
-            row.push(Whole::new(*number).ok_or(RingFault::TooLarge)?)?;
-        }
-        rows.push(row)?;
+        rows.push(numbers(alloc, values)?)?;
     }
     Ok(rows)
 }
 
+// The polynomials in n with these coefficients.
+fn polynomials(alloc: Global, lists: &[&[i128]]) -> Result<Vec<Zn>, RingFault> {
+    let mut row = Vec::new(alloc);
+    for list in lists {
+        row.push(Poly::from_coefficients(numbers(alloc, list)?)?)?;
+    }
+    Ok(row)
+}
+
 // Whether each row has the width.
-fn are_of_width(rows: &[Vec<Whole>], width: usize) -> bool
+fn are_of_width<R>(rows: &[Vec<R>], width: usize) -> bool
     ensures sizes { IsTrue result → All (λ row. length row.items ≡ width) rows.now }
 {
     for at in 0..rows.len() {
@@ -33,10 +47,34 @@ fn are_of_width(rows: &[Vec<Whole>], width: usize) -> bool
     true
 }
 
-fn are_same(row: &[Whole], numbers: &[i128]) -> bool {
-    row.iter()
-        .map(|entry| entry.value())
-        .eq(numbers.iter().copied())
+fn are_same<R: Ring>(row: &[R], wanted: &[R]) -> bool {
+    if row.len() != wanted.len() {
+        return false;
+    }
+    for at in 0..row.len() {
+        if !row[at].same(&wanted[at]) {
+            return false;
+        }
+    }
+    true
+}
+
+// Whether elimination gives this vector, which ends at the column. A generic call, so that its own contract is what is used.
+fn has_vector<R: Reducing>(
+    alloc: Global,
+    rows: Vec<Vec<R>>,
+    columns: u32,
+    first: u32,
+    wanted: &[R],
+    free: u32,
+) -> Result<bool, RingFault> {
+    if !are_of_width(&rows, columns as usize) || columns == 0 || columns > 48 || first >= columns {
+        return Err(RingFault::TooLarge);
+    }
+    match eliminate(alloc, rows, columns, first)? {
+        Either::Left(kernel) => Ok(kernel.free == free && are_same(&kernel.vector, wanted)),
+        Either::Right(_) => Ok(false),
+    }
 }
 
 #[test]
@@ -50,20 +88,37 @@ fn vectors_of_whole_numbers(rt: HostRuntime) -> Result<(), RingFault> {
     ];
     for (rows, columns, first, wanted, free) in table {
         let rows = rows_of(alloc, rows, columns as usize)?;
-        if !are_of_width(&rows, columns as usize)
-            || columns == 0
-            || columns > 48
-            || first >= columns
-        {
-            return Err(RingFault::TooLarge);
+        let wanted = numbers(alloc, wanted)?;
+        assert!(rt; has_vector(alloc, rows, columns, first, &wanted, free)?);
+    }
+    Ok(())
+}
+
+// n*x = y; (n^2 - n)*x + n*y = 0, whose vector is reduced; a row of zeros; no rows; and two rows that are cleared over polynomials:
+// x + n*y = z and n*x + y = (n + 1)*z, so that (1 - n^2)*y = z, and z = 1 - n^2 gives y = 1 and x = 1 - n - n^2.
+#[test]
+fn vectors_of_polynomials(rt: HostRuntime) -> Result<(), RingFault> {
+    let alloc = rt.alloc();
+    let table: [(&[&[&[i128]]], u32, u32, &[&[i128]], u32); 5] = [
+        (&[&[&[0, 1], &[-1]]], 2, 1, &[&[1], &[0, 1]], 1),
+        (&[&[&[0, -1, 1], &[0, 1]]], 2, 0, &[&[-1], &[-1, 1]], 1),
+        (&[&[&[], &[]]], 2, 1, &[&[], &[1]], 1),
+        (&[], 2, 0, &[&[1], &[]], 0),
+        (
+            &[&[&[1], &[0, 1], &[-1]], &[&[0, 1], &[1], &[-1, -1]]],
+            3,
+            0,
+            &[&[1, -1, -1], &[1], &[1, 0, -1]],
+            2,
+        ),
+    ];
+    for (lists, columns, first, wanted, free) in table {
+        let mut rows = Vec::new(alloc);
+        for row in lists {
+            rows.push(polynomials(alloc, row)?)?;
         }
-        match eliminate(alloc, rows, columns, first)? {
-            Either::Left(kernel) => {
-                assert!(rt; are_same(&kernel.vector, wanted));
-                assert_eq!(rt; kernel.free, free);
-            }
-            Either::Right(_) => assert!(rt; false),
-        }
+        let wanted = polynomials(alloc, wanted)?;
+        assert!(rt; has_vector(alloc, rows, columns, first, &wanted, free)?);
     }
     Ok(())
 }
@@ -101,9 +156,11 @@ fn bases_of_whole_numbers(rt: HostRuntime) -> Result<(), RingFault> {
     }
     let basis = kernel_basis(alloc, rows, 3)?;
     assert_eq!(rt; basis.len(), 2);
-    assert!(rt; are_same(&basis[0], &[1, 1, 0]));
-    assert!(rt; are_same(&basis[1], &[0, 0, 1]));
+    assert!(rt; are_same(&basis[0], &numbers(alloc, &[1, 1, 0])?));
+    assert!(rt; are_same(&basis[1], &numbers(alloc, &[0, 0, 1])?));
     let all = kernel_basis::<Whole>(alloc, Vec::new(alloc), 48)?;
+    assert_eq!(rt; all.len(), 48);
+    let all = kernel_basis::<Zn>(alloc, Vec::new(alloc), 48)?;
     assert_eq!(rt; all.len(), 48);
     Ok(())
 }

@@ -18,3 +18,7 @@ pub mod Vectors
 pub mod Bases
 pub mod TimesInBounds
 pub mod RunSizes
+mod KnownRows
+pub mod Cancelling
+pub mod OneRun
+pub mod OneVector

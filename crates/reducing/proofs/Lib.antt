@@ -1,2 +1,15 @@
 mod Divisors
 mod WholeRows
+mod Polynomials
+mod LeastEntries
+mod RowQuotients
+mod ContentQuotients
+mod WithoutFactor
+mod WithoutFactors
+mod RowContents
+mod ReducedRows
+mod Leads
+mod Cores
+mod KnownRows
+mod CommonForms
+mod CommonNumbers

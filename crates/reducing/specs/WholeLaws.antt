@@ -91,7 +91,7 @@ same_numbers xs ys e = sym (again xs) ∙ ap (map number_of) e ∙ again ys
     again [] = refl
     again (z ∷ zs) = ap (λ t. z ∷ t) (again zs)
 
-one_content : (xs : List ℕ) (b c : ℕ) → IsContent xs b → IsContent xs c → b ≡ c
+pub one_content : (xs : List ℕ) (b c : ℕ) → IsContent xs b → IsContent xs c → b ≡ c
 one_content xs b c h k = dvd_antisymm (k.greatest b h.divides) (h.greatest c k.divides)
 
 cancel : (c : ℕ) (p q : ℤ) → pos (suc c) *ℤ p ≡ pos (suc c) *ℤ q → p ≡ q

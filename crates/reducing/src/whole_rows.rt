@@ -45,7 +45,7 @@ fn content_of(row: &[Whole]) -> Whole
 }
 
 // The quotients by a number that divides each number of the row.
-fn divided(alloc: Global, row: &[Whole], divisor: Whole) -> Result<Vec<Whole>, RingFault>
+pub fn divided(alloc: Global, row: &[Whole], divisor: Whole) -> Result<Vec<Whole>, RingFault>
     requires divides { DividesAll (unsigned_abs divisor.value) (map (λ number. unsigned_abs number.value) row.now) }
     requires not_zero { divisor.value ≢ pos 0 }
     ensures quotients { IfOk result (λ quotients. map (λ number. number.value) row.now

@@ -2,6 +2,7 @@ use Rattle.std.proofs.Common.{◌≡◌, ℕ, ◌<◌, ◌≤◌, length, map, s
 use Rattle.kernel_laws.specs.Pivots.{IsPivotRow, IsPivotColumn}
 use Rattle.kernel_laws.specs.BackSubstitution.{BackRun}
 use Rattle.kernel_laws.specs.Answers.{AllPivots, IsFirstFree}
+use Rattle.kernel_laws.proofs.OneVector.{one_vector}
 use Rattle.fraction_free.specs.RowAnswers.{rows_meant}
 use Rattle.fraction_free.specs.RoundAnswers.{pivots_meant}
 use Rattle.fraction_free.proofs.PivotColumns.{pivots_length}
@@ -46,3 +47,14 @@ returns-clause-kernel g c =
     c.in_ok-pivots.ensures.runs c.args.first
     (subst (λ v. (i : ℕ) → c.args.first ≤ i → i < c.args.columns
     → IsPivotColumn i (pivots_meant M v)) c.deref.ensures.value c.in-None.ensures.first))
+
+pub returns-in-Some-clause-only : goal.returns-in-Some-clause-only
+returns-in-Some-clause-only g c =
+    let M = g.R.Ring.meaning in
+    let ps = pivots_meant M c.in_ok-pivots.pivots.items in
+    let vector = map M c.in_ok-vector-in-Some.vector.items in
+    let back = subst (λ v. BackRun g.R.Ring.algebra g.R.Reducing.reduction c.args.columns c.in-Some.free (pivots_meant M v) vector)
+    c.deref-in-Some.ensures.value c.in_ok-vector-in-Some.ensures.runs in
+    λ other h.
+    one_vector g.R.Ring.algebra g.met.R.Ring.laws g.met.R.Domain.domain_laws g.R.Reducing.reduction g.met.R.Reducing.reduction_laws c.args.columns
+    (rows_meant M c.args.rows.items) c.in-Some.free other vector h (record { pivots = ps; ran = c.in_ok-pivots.ensures.runs; back = back })

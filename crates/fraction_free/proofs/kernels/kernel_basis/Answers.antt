@@ -4,6 +4,7 @@ use Rattle.ring_laws.specs.Answer.{OnFault, fault_weaker}
 use Rattle.kernel_laws.specs.Pivots.{IsPivotRow, IsPivotColumn}
 use Rattle.kernel_laws.specs.BackSubstitution.{BackRun, BackInBounds, FreeVectors}
 use Rattle.kernel_laws.specs.Answers.{Basis}
+use Rattle.kernel_laws.proofs.OneVector.{one_basis}
 use Rattle.fraction_free.specs.RowAnswers.{rows_meant}
 use Rattle.fraction_free.specs.RoundAnswers.{pivots_meant}
 use Rattle.fraction_free.proofs.ManyRows.{fault_rows}
@@ -82,3 +83,16 @@ returns-clause-basis g c =
     c.in_ok-pivots.ensures.runs c.loop-column.invariant.frees (rows_meant M c.loop-column.vectors.items)
     (subst (λ j. FreeVectors g.R.Ring.algebra g.R.Reducing.reduction c.args.columns (pivots_meant M c.in_ok-pivots.pivots.items) j
     c.loop-column.invariant.frees (rows_meant M c.loop-column.vectors.items)) e c.loop-column.invariant.made)
+
+pub returns-clause-only : goal.returns-clause-only
+returns-clause-only g c =
+    let M = g.R.Ring.meaning in
+    let A = g.R.Ring.algebra in
+    let R = g.R.Reducing.reduction in
+    let ps = pivots_meant M c.in_ok-pivots.pivots.items in
+    let vectors = rows_meant M c.loop-column.vectors.items in
+    let e : c.loop-column.column ≡ c.args.columns = omega (arith, c.loop-column.invariant.within, c.loop-column-test.false) in
+    let all = subst (λ j. FreeVectors A R c.args.columns ps j c.loop-column.invariant.frees vectors) e c.loop-column.invariant.made in
+    λ others h.
+    one_basis A g.met.R.Ring.laws g.met.R.Domain.domain_laws R g.met.R.Reducing.reduction_laws c.args.columns (rows_meant M c.args.rows.items) others
+    vectors h (record { pivots = ps; ran = c.in_ok-pivots.ensures.runs; frees = c.loop-column.invariant.frees; back = all })

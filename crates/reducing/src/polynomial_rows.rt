@@ -1,0 +1,93 @@
+//! Rows of polynomials in n, reduced by their content and by the linear factors of an entry of least degree.
+
+ghost use Rattle.std.specs.Prelude.{◌≡◌, ◌↔◌, ◌<ℤ◌, pos, map, IfOk, IfErr, IsTrue, IsFalse};
+ghost use Rattle.ring_laws.specs.declared.faults.RingFault.TheVariants.{Memory};
+ghost use Rattle.whole_roots.specs.Differences.{polynomials};
+ghost use Rattle.reducing.specs.RowAnswer.{GivesRow, GivesParts};
+ghost use Rattle.reducing.specs.PolynomialRows.{lead_number, PolynomialsReduced, PolynomialsInBounds, PolynomialSplit, SplittingInBounds, polynomial_reduction};
+ghost use Rattle.reducing.specs.PolynomialAnswers.{HasPositiveLead, GivesCore};
+ghost use Rattle.reducing.specs.SplitLaws.{polynomial_reduction_laws};
+
+use crate::domains::Reducing;
+use crate::factors_out::without_factors;
+use crate::least_entries::{degree_of, least_place};
+use crate::row_contents::{content_of, without_content};
+use poly_generic::Zn;
+use ring_laws::{Domain, Ring, RingFault};
+use std::alloc::Global;
+use whole_roots::linear_factors;
+
+// The row, reduced.
+fn reduced(alloc: Global, row: Vec<Zn>) -> Result<Vec<Zn>, RingFault>
+    ensures reduces { GivesRow ⟦<Zn as Ring>⟧.meaning (PolynomialsReduced (map ⟦<Zn as Ring>⟧.meaning row.items))
+        (PolynomialsInBounds (map ⟦<Zn as Ring>⟧.meaning row.items)) result }
+{
+    let content = content_of(&row);
+    if content.value() == 0 {
+        return Ok(row);
+    }
+    let quotients = without_content(alloc, row, content)?;
+    let place = least_place(&quotients).unwrap();
+    let factors = linear_factors(alloc, &quotients[place])?;
+    without_factors(alloc, quotients, &factors)
+}
+
+// The polynomial or its negative, so that its lead isn't negative.
+fn with_positive_lead(alloc: Global, f: Zn) -> Result<Zn, RingFault>
+    ensures lead { IfOk result (λ out. HasPositiveLead (⟦<Zn as Ring>⟧.meaning f) (⟦<Zn as Ring>⟧.meaning out)) }
+    ensures memory { IfErr result (λ fault. fault ≡ Memory) }
+{
+    if is_lead_negative(&f) {
+        return f.neg(alloc);
+    }
+    Ok(f)
+}
+
+// Whether the coefficient of the greatest power is negative.
+fn is_lead_negative(f: &Zn) -> bool
+    ensures test { IsTrue result ↔ (lead_number (⟦<Zn as Ring>⟧.meaning f.now) <ℤ pos 0) }
+{
+    match f.lead() {
+        Some(lead) => lead.value() < 0,
+        None => false,
+    }
+}
+
+// What is left of a polynomial without its content and all its linear factors, with a positive lead.
+fn core_of(alloc: Global, f: &Zn) -> Result<Zn, RingFault>
+    requires not_zero { IsFalse (polynomials.ops.is_nought (⟦<Zn as Ring>⟧.meaning f.now)) }
+    ensures core { GivesCore ⟦<Zn as Ring>⟧.meaning (⟦<Zn as Ring>⟧.meaning f.now) result }
+{
+    let copy = f.duplicate(alloc)?;
+    let mut row = Vec::new(alloc);
+    row.push(copy)?;
+    let mut row = reduced(alloc, row)?;
+    with_positive_lead(alloc, row.remove(0))
+}
+
+impl Reducing for Zn {
+    ghost reduction = { polynomial_reduction };
+
+    ghost reduction_laws = { polynomial_reduction_laws };
+
+    fn weight(&self) -> u32 {
+        degree_of(self)
+    }
+
+    fn reduce_row(alloc: Global, row: Vec<Zn>) -> Result<Vec<Zn>, RingFault>
+        ensures reduces { GivesRow ⟦<Zn as Ring>⟧.meaning (PolynomialsReduced (map ⟦<Zn as Ring>⟧.meaning row.items))
+            (PolynomialsInBounds (map ⟦<Zn as Ring>⟧.meaning row.items)) result }
+    {
+        reduced(alloc, row)
+    }
+
+    fn split(&self, alloc: Global) -> Result<(Zn, Zn), RingFault>
+        requires not_zero { IsFalse (polynomials.ops.is_nought (⟦<Zn as Ring>⟧.meaning self.now)) }
+        ensures splits { GivesParts ⟦<Zn as Ring>⟧.meaning (PolynomialSplit (⟦<Zn as Ring>⟧.meaning self.now))
+            (SplittingInBounds (⟦<Zn as Ring>⟧.meaning self.now)) result }
+    {
+        let core = core_of(alloc, self)?;
+        let plain = self.divide_exact(alloc, &core)?;
+        Ok((plain.unwrap(), core))
+    }
+}
