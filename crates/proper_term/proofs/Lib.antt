@@ -1,0 +1,4 @@
+pub mod FactTests
+pub mod FieldPolynomials
+pub mod LeastPlaces
+pub mod ListItems

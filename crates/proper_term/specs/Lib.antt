@@ -1,0 +1,5 @@
+pub mod Fields
+pub mod OneProof
+pub mod TermOf
+pub mod NamesOfK
+pub mod NaturalRange
