@@ -1,4 +1,13 @@
+pub mod CancelledFactorials
+pub mod DivisorRuns
 pub mod FactTests
+pub mod Faults
 pub mod FieldPolynomials
+pub mod FormValues
 pub mod LeastPlaces
 pub mod ListItems
+pub mod PowerFractions
+pub mod Runs
+pub mod UnitDivisors
+pub mod ValueProducts
+pub mod WholePowers

@@ -1,10 +1,11 @@
 -- Walks of a list of factors by index.
-use Rattle.std.proofs.Common.{◌≡◌, ◌≢◌, ℕ, ◌+◌, ◌↔◌, refl, ap, sym, ◌∙◌, subst, add-one, List, ◌∷◌, Some, None, Bool, true, false, drop, slice_get}
-use Rattle.std.specs.Prelude.{if◌then◌else◌, ℤ, length, ◌<◌, ◌≤◌}
+use Rattle.std.proofs.Common.{◌≡◌, ◌≢◌, ℕ, ◌+◌, ◌↔◌, refl, ap, sym, ◌∙◌, subst, add-one, List, [], ◌∷◌, Some, None, Bool, true, false, drop, slice_get}
+use Rattle.std.specs.Prelude.{if◌then◌else◌, ℤ, pos, ◌≤ℤ◌, length, ◌<◌, ◌≤◌}
 use Rattle.std.specs.List.{AllByRecursion}
 use Rattle.std.specs.Ordering.{int_eq}
 use Rattle.std.proofs.lemmas.Bool.Decides.{Decides-int_eq}
-use Rattle.hypergeometric.specs.LinearForm.{Factor}
+use Rattle.hypergeometric.specs.LinearForm.{LinearForm, Factor, form_value}
+use Rattle.hypergeometric.specs.ProperTerm.{NoneNegative, NoneZero}
 use Rattle.lin_form.proofs.ListProducts.{from_index, item_there, all_dropped}
 use Rattle.proper_term.specs.NaturalRange.{first_with_slope}
 
@@ -55,3 +56,12 @@ all_not P xs i x e h p all = p (subst (AllByRecursion P) (item_first xs i x e) (
 pub all_past : {A : Type 0} (P : A → Type 0) (xs : List A) (i : ℕ) → length xs ≤ i
     → (AllByRecursion P (drop i xs) ↔ AllByRecursion P xs) → AllByRecursion P xs
 all_past P xs i past h = h.0 (subst (AllByRecursion P) (sym (all_dropped xs i past)) tt)
+
+-- no value is negative, and none is 0, as facts of each item
+pub negative_all : (xs : List Factor) (n k : ℤ) → NoneNegative xs n k ↔ AllByRecursion (λ x. pos 0 ≤ℤ form_value x.form n k) xs
+negative_all [] n k = (λ h. h, λ h. h)
+negative_all (x ∷ xs) n k = (λ h. (h.0, (negative_all xs n k).0 h.1), λ h. (h.0, (negative_all xs n k).1 h.1))
+
+pub zero_all : (xs : List Factor) (n k : ℤ) → NoneZero xs n k ↔ AllByRecursion (λ x. form_value x.form n k ≢ pos 0) xs
+zero_all [] n k = (λ h. h, λ h. h)
+zero_all (x ∷ xs) n k = (λ h. (h.0, (zero_all xs n k).0 h.1), λ h. (h.0, (zero_all xs n k).1 h.1))

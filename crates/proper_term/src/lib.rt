@@ -8,8 +8,10 @@
 
 mod facts;
 mod names_of_k;
+mod point;
 mod proper;
 mod range;
+mod running;
 
 pub use names_of_k::free_of_k;
 pub use proper::Proper;
