@@ -6,7 +6,7 @@ use Rattle.std.proofs.lemmas.Nat.{pow-add, mul-pow}
 use Rattle.std.proofs.lemmas.Bool.{cases_lt}
 use Rattle.std.proofs.lemmas.Bool.Decides.{nat_tests}
 use Rattle.hypergeometric.specs.LinearForm.{factorial}
-use Rattle.proper_term.specs.Cancelled.{Argument, at_least, greatest, rising, left_over}
+use Rattle.proper_term.specs.Cancelled.{Argument, counted, at_least, greatest, rising, left_over}
 
 abbrev pub list_product : List ℕ → ℕ
 list_product [] = 1
@@ -50,14 +50,10 @@ powers_positive a i (suc m) h = both (i ^ a i) (powers_from a (i + 1) m) (one-le
     both : (x y : ℕ) → 1 ≤ x → 0 < y → 0 < x * y
     both x y p q = grind arith
 
--- p where j is at most the number, and else 0
-abbrev counted : ℕ → ℕ → ℕ → ℕ
-counted number p j = if nat_le j number then p else 0
-
-counted_below : (number p j : ℕ) → j ≤ number → counted number p j ≡ p
+pub counted_below : (number p j : ℕ) → j ≤ number → counted number p j ≡ p
 counted_below number p j h = grind (arith, nat_tests)
 
-counted_above : (number p j : ℕ) → number < j → counted number p j ≡ 0
+pub counted_above : (number p j : ℕ) → number < j → counted number p j ≡ 0
 counted_above number p j h = grind (arith, nat_tests)
 
 next_power : (j p r f : ℕ) → (suc j ^ p * r) * f ^ p ≡ r * (suc j * f) ^ p

@@ -1,11 +1,14 @@
 pub mod CancelledFactorials
 pub mod DivisorRuns
 pub mod FactTests
+pub mod FactorialRuns
 pub mod Faults
 pub mod FieldPolynomials
 pub mod FormValues
 pub mod LeastPlaces
 pub mod ListItems
+pub mod NextArguments
+pub mod NumbersLeft
 pub mod PowerFractions
 pub mod Runs
 pub mod UnitDivisors

@@ -13,10 +13,14 @@ pub record Argument : Type 0 where
 abbrev pub arguments_at : ℤ → ℤ → List Factor → List Argument
 arguments_at n k xs = map (λ x. record { number = unsigned_abs (form_value x.form n k); power = x.power }) xs
 
+-- how often i stands in number! to a power: the power where i is at most the number, and else 0
+abbrev pub counted : ℕ → ℕ → ℕ → ℕ
+counted number power i = if nat_le i number then power else 0
+
 -- how often i stands in the product of the factorials: the sum of the powers of the numbers that are at least i
 abbrev pub at_least : List Argument → ℕ → ℕ
 at_least [] i = 0
-at_least (x ∷ xs) i = (if nat_le i x.number then x.power else 0) + at_least xs i
+at_least (x ∷ xs) i = counted x.number x.power i + at_least xs i
 
 abbrev pub greatest : List Argument → ℕ
 greatest [] = 0

@@ -5,4 +5,5 @@ pub mod NamesOfK
 pub mod NaturalRange
 pub mod Runs
 pub mod Cancelled
+pub mod Cursors
 pub mod ValueBounds

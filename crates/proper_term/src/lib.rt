@@ -6,6 +6,10 @@
 //! Read `proper.rt` (the type) with `facts.rt` (its facts as tests), then `names_of_k.rt` and `range.rt`.
 #![tactic(auto)]
 
+mod argument;
+mod arguments;
+mod cursor;
+mod factorials;
 mod facts;
 mod names_of_k;
 mod point;
