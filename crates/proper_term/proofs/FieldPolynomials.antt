@@ -13,7 +13,7 @@ use Rattle.poly_laws.proofs.Equal.{level_laws}
 use Rattle.poly_generic.specs.declared.polys.Poly.{Poly}
 use Rattle.hypergeometric.specs.TermFacts.{IsPolynomial}
 
-abbrev coefficient : Poly Whole ghosts → Meaning
+abbrev pub coefficient : Poly Whole ghosts → Meaning
 coefficient c = listed (map (λ (w : Whole). number w.value) c.list.items)
 
 pub polynomial_kept : (cs : List (Poly Whole ghosts)) → IsTrue (is_trimmed (level 1).ops (map coefficient cs)) → length cs ≤ 256

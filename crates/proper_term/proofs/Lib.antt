@@ -9,6 +9,7 @@ pub mod LeastPlaces
 pub mod ListItems
 pub mod NextArguments
 pub mod NumbersLeft
+pub mod PolynomialSizes
 pub mod PowerFractions
 pub mod Runs
 pub mod UnitDivisors

@@ -1,21 +1,25 @@
 -- When the value of a term at a point is in bounds: where the running fraction of its factors is.
-use Rattle.std.specs.Prelude.{ℤ, pos, negsuc, suc, unsigned_abs, List, [], ◌∷◌, ◌++◌, replicate}
+use Rattle.std.specs.Prelude.{ℕ, ◌+◌, ◌*◌, ◌^◌, ◌<◌, ℤ, pos, negsuc, suc, unsigned_abs, List, [], ◌∷◌, ◌++◌, replicate}
 use Rattle.ring_laws.specs.Meaning.{Meaning, items}
 use Rattle.ring_laws.specs.Wholes.{number_of}
-use Rattle.poly_laws.specs.Values.{horner}
 use Rattle.hypergeometric.specs.Fraction.{Fraction, of_whole, natural_power}
 use Rattle.hypergeometric.specs.LinearForm.{Factor, form_value}
 use Rattle.hypergeometric.specs.ProperTerm.{ProperTerm, poly_value, IsDefinedAt, NoneNegative}
-use Rattle.hypergeometric.specs.TermFacts.{IsNumber}
 use Rattle.proper_term.specs.Cancelled.{arguments_at, left_over, quotients}
 use Rattle.proper_term.specs.Runs.{RunsInBounds}
 
-abbrev pub magnitude : ℤ → ℤ
-magnitude z = pos (unsigned_abs z)
+-- x0 + v*x1 + v^2*x2 + .. of the sizes of the items
+abbrev pub sizes : {A : Type 0} → (A → ℕ) → ℕ → List A → ℕ
+sizes f v [] = 0
+sizes f v (x ∷ xs) = f x + v * sizes f v xs
+
+-- the sum of |coefficient| * |n|^i
+abbrev pub size_in_n : ℤ → Meaning → ℕ
+size_in_n n p = sizes (λ z. unsigned_abs (number_of z)) (unsigned_abs n) (items p)
 
 -- the sum of |coefficient| * |n|^i * |k|^j over all coefficients
-abbrev pub magnitude_value : Meaning → ℤ → ℤ → ℤ
-magnitude_value p n k = horner (λ c. horner (λ z. magnitude (number_of z)) (magnitude n) (items c)) (magnitude k) (items p)
+abbrev pub size_at : ℤ → ℤ → Meaning → ℕ
+size_at n k p = sizes (size_in_n n) (unsigned_abs k) (items p)
 
 abbrev pub turned : Fraction → Fraction
 turned f = record { top = f.bottom; bottom = f.top }
@@ -42,7 +46,7 @@ value_factors f n k =
 
 -- the polynomial's value, as one operation, and the run of the factors are in bounds
 pub record IsRunInBounds (f : ProperTerm) (n k : ℤ) : Type 0 where
-  pub poly : IsNumber (magnitude_value f.poly n k)
+  pub poly : size_at n k f.poly < 2 ^ 127
   pub run : RunsInBounds f.scale (value_factors f n k)
 
 -- where the term isn't defined, or a factorial below is that of a negative number, nothing is counted

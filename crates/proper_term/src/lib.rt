@@ -13,6 +13,7 @@ mod factorials;
 mod facts;
 mod names_of_k;
 mod point;
+mod polynomial;
 mod proper;
 mod range;
 mod running;

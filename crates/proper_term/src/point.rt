@@ -23,6 +23,24 @@ impl Point {
     ghost use Rattle.hypergeometric.specs.LinearForm.{form_value};
     ghost use Rattle.lin_form.specs.Forms.{form_of};
 
+    /// n as a `Whole`.
+    pub(crate) fn whole_n(self) -> Whole
+        ensures value { result.value ≡ self.n }
+    {
+        Whole {
+            value: i128::from(self.n),
+        }
+    }
+
+    /// k as a `Whole`.
+    pub(crate) fn whole_k(self) -> Whole
+        ensures value { result.value ≡ self.k }
+    {
+        Whole {
+            value: i128::from(self.k),
+        }
+    }
+
     /// The value of the form at the point.
     pub(crate) fn value_of(self, form: &LinForm) -> i128
         ensures value { result ≡ form_value (form_of form.now) self.n self.k }
