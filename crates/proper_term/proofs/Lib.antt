@@ -14,4 +14,5 @@ pub mod PowerFractions
 pub mod Runs
 pub mod UnitDivisors
 pub mod ValueProducts
+pub mod ValueRuns
 pub mod WholePowers

@@ -17,7 +17,11 @@ mod polynomial;
 mod proper;
 mod range;
 mod running;
+#[cfg(test)]
+mod tests;
+mod values;
 
 pub use names_of_k::free_of_k;
 pub use proper::Proper;
 pub use range::natural;
+pub use values::value;
