@@ -1,6 +1,6 @@
 -- Cancelling common factors changes no quotient of factorials.
-use Rattle.std.proofs.Common.{◌≡◌, ℕ, zero, suc, ◌+◌, ◌-◌, ◌*◌, ◌^◌, ◌<◌, ◌≤◌, max, refl, ap, sym, ◌∙◌, subst, arith, add-one, List, [], ◌∷◌, ◌++◌, Bool, true, false, ⊎_elim}
-use Rattle.std.specs.Prelude.{if◌then◌else◌, nat_le, replicate}
+use Rattle.std.proofs.Common.{◌≡◌, ℕ, zero, suc, ◌+◌, ◌-◌, ◌*◌, ◌^◌, ◌<◌, ◌≤◌, max, refl, ap, sym, ◌∙◌, subst, arith, add-one, List, [], ◌∷◌, ◌++◌, ⊎_elim}
+use Rattle.std.specs.Prelude.{replicate}
 use Rattle.std.proofs.Math.Nat.{pow-zero, pow-succ', one-le-pow}
 use Rattle.std.proofs.lemmas.Nat.{pow-add, mul-pow}
 use Rattle.std.proofs.lemmas.Bool.{cases_lt}

@@ -1,5 +1,5 @@
 -- The runs over the quotients of two lists of numbers.
-use Rattle.std.proofs.Common.{◌≡◌, ◌≢◌, ℕ, ◌+◌, ◌<◌, ap, sym, ◌∙◌, subst, List, [], ◌∷◌, ◌++◌, length, ◌⊎◌}
+use Rattle.std.proofs.Common.{◌≡◌, ◌≢◌, ℕ, ◌+◌, ◌<◌, sym, ◌∙◌, subst, List, [], ◌∷◌, ◌++◌, length, ◌⊎◌}
 use Rattle.std.specs.Prelude.{ℤ, pos}
 use Rattle.hypergeometric.specs.Fraction.{Fraction}
 use Rattle.proper_term.specs.Cancelled.{quotients}

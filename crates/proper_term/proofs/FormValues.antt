@@ -1,5 +1,5 @@
 -- Values of forms at points of 64 bits are below 2^72 in magnitude.
-use Rattle.std.proofs.Common.{◌≡◌, refl, ℕ, ◌*◌, ◌^◌, ◌<◌, ◌≤◌, subst, sym, arith, Option, Some, None, MatchOption}
+use Rattle.std.proofs.Common.{◌≡◌, refl, ◌*◌, ◌^◌, ◌<◌, ◌≤◌, subst, arith, Option, Some, None, MatchOption}
 use Rattle.std.proofs.Math.Nat.{mul-le-mul}
 use Rattle.std.proofs.lemmas.Int.{ints, unsigned_abs-mul}
 use Rattle.std.specs.Prelude.{ℤ, ◌+ℤ◌, ◌*ℤ◌, unsigned_abs, IsSome}

@@ -5,6 +5,7 @@ pub mod FactorialRuns
 pub mod Faults
 pub mod FieldPolynomials
 pub mod FormValues
+mod KnownTerms
 pub mod LeastPlaces
 pub mod ListItems
 pub mod NextArguments

@@ -4,7 +4,7 @@ use Rattle.std.specs.Prelude.{if◌then◌else◌, ℤ, pos, ◌≤ℤ◌, lengt
 use Rattle.std.specs.List.{AllByRecursion}
 use Rattle.std.specs.Ordering.{int_eq}
 use Rattle.std.proofs.lemmas.Bool.Decides.{Decides-int_eq}
-use Rattle.hypergeometric.specs.LinearForm.{LinearForm, Factor, form_value}
+use Rattle.hypergeometric.specs.LinearForm.{Factor, form_value}
 use Rattle.hypergeometric.specs.ProperTerm.{NoneNegative, NoneZero}
 use Rattle.lin_form.proofs.ListProducts.{from_index, item_there, all_dropped}
 use Rattle.proper_term.specs.NaturalRange.{first_with_slope}

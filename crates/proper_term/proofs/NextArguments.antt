@@ -1,5 +1,5 @@
 -- The next argument, over lists that grow at their ends.
-use Rattle.std.proofs.Common.{◌≡◌, ℕ, zero, suc, ◌+◌, ◌<◌, ◌≤◌, max, min, refl, ap, sym, ◌∙◌, subst, arith, add-one, List, [], ◌∷◌, ◌++◌, length, map, take, get_or, slice_get, Option, Some, None}
+use Rattle.std.proofs.Common.{◌≡◌, ℕ, ◌+◌, ◌<◌, ◌≤◌, max, min, ap, sym, ◌∙◌, arith, add-one, List, [], ◌∷◌, ◌++◌, length, map, take, get_or, slice_get, Option, Some, None}
 use Rattle.std.proofs.Math.Seq.{take-suc}
 use Rattle.std.proofs.lemmas.List.{map-append}
 use Rattle.std.proofs.lemmas.Option.{slice_get_within, get_or_from_slice_get}

@@ -1,9 +1,9 @@
 -- The numbers that are left, from one that stands above more often than below to the next.
-use Rattle.std.proofs.Common.{◌≡◌, ◌≢◌, ℕ, zero, suc, ◌+◌, ◌-◌, ◌<◌, ◌≤◌, max, refl, ap, sym, ◌∙◌, subst, arith, List, [], ◌∷◌, ◌++◌, length, ◌⊎◌, inl, inr}
+use Rattle.std.proofs.Common.{◌≡◌, ◌≢◌, ℕ, zero, suc, ◌+◌, ◌-◌, ◌<◌, ◌≤◌, max, refl, ap, sym, ◌∙◌, arith, List, [], ◌∷◌, ◌++◌, length, ◌⊎◌, inl, inr}
 use Rattle.std.proofs.lemmas.Bool.{cases_lt}
-use Rattle.std.specs.Prelude.{pos, replicate}
-use Rattle.proper_term.specs.Cancelled.{Argument, at_least, greatest, rising, left_over, quotient, quotients}
-use Rattle.proper_term.specs.Cursors.{IsNextOfTwo, numbers_left, first_of, rest_of, IsFilled}
+use Rattle.std.specs.Prelude.{replicate}
+use Rattle.proper_term.specs.Cancelled.{Argument, at_least, greatest, rising, quotient, quotients}
+use Rattle.proper_term.specs.Cursors.{IsNextOfTwo, numbers_left, first_of, rest_of}
 use Rattle.proper_term.proofs.CancelledFactorials.{counted_above}
 
 at_least_past : (xs : List Argument) (j : ℕ) → greatest xs < j → at_least xs j ≡ 0

@@ -1,11 +1,11 @@
 -- Values of polynomials at a point, and the sizes that bound them.
-use Rattle.std.proofs.Common.{◌≡◌, ◌≢◌, ℕ, zero, suc, ◌+◌, ◌*◌, ◌<◌, ◌≤◌, ◌^◌, refl, ap, sym, ◌∙◌, subst, arith, List, [], ◌∷◌, map, length, drop, take, get_or, slice_get, ◌-◌}
+use Rattle.std.proofs.Common.{◌≡◌, ℕ, zero, suc, ◌+◌, ◌*◌, ◌<◌, ◌≤◌, ◌^◌, refl, ap, sym, ◌∙◌, subst, arith, List, [], ◌∷◌, map, length, drop, take, get_or, ◌-◌}
 use Rattle.std.proofs.Math.Nat.{mul-le-mul_left, mul-le-mul_right}
 use Rattle.std.proofs.lemmas.Int.{ints, unsigned_abs-mul}
 use Rattle.std.proofs.lemmas.Option.{slice_get-map, slice_get_read}
 use Rattle.std.specs.Option.{option_map}
 use Rattle.lin_form.proofs.ListProducts.{from_index}
-use Rattle.std.specs.Prelude.{ℤ, pos, negsuc, ◌+ℤ◌, ◌*ℤ◌, unsigned_abs}
+use Rattle.std.specs.Prelude.{ℤ, pos, ◌+ℤ◌, ◌*ℤ◌, unsigned_abs}
 use Rattle.ring_solver.proofs.Read.{ring_z, reading_z}
 use Rattle.ring_laws.specs.Meaning.{Meaning, number, listed, items, parted-joined}
 use Rattle.ring_laws.specs.Wholes.{number_of, whole_algebra}
@@ -101,7 +101,6 @@ pub first_size : {A : Type 0} (g : A → ℕ) (v : ℕ) (xs : List A) → v ≡ 
 first_size g v [] e = refl
 first_size g zero (x ∷ xs) e = omega arith
 first_size g (suc v) (x ∷ xs) e = absurd (omega (arith, e))
-
 
 -- the coefficients are the items of the polynomial
 pub coefficients_are : (ms : List Meaning) (p : Meaning) → listed ms ≡ p → ms ≡ items p

@@ -3,8 +3,8 @@ use Rattle.std.proofs.Common.{◌≡◌, refl, ap, sym, ◌∙◌, subst, List, 
 use Rattle.std.specs.Prelude.{ℤ, pos, ◌*ℤ◌}
 use Rattle.ring_solver.proofs.Read.{ring_z, reading_z}
 use Rattle.hypergeometric.specs.Fraction.{Fraction, IsDefined, ◌≈◌, of_whole, fraction_product}
-use Rattle.hypergeometric.proofs.FractionLaws.{one_not_zero, product_not_zero, equal_to_itself, equal_turned, equal_chain, equal_products}
-use Rattle.proper_term.specs.Runs.{IsInLowestTerms, IsReduced, RunsInBounds, Runs, product_of}
+use Rattle.hypergeometric.proofs.FractionLaws.{one_not_zero, product_not_zero, equal_to_itself, equal_chain, equal_products}
+use Rattle.proper_term.specs.Runs.{IsInLowestTerms, RunsInBounds, Runs, product_of}
 
 -- one run after another
 pub runs_join : (r : Fraction) (xs : List Fraction) (s : Fraction) (ys : List Fraction) (t : Fraction) → Runs r xs s → Runs s ys t

@@ -1,12 +1,12 @@
 -- Over 1 or -1 an even number of times, a running fraction stays.
-use Rattle.std.proofs.Common.{◌≡◌, ◌≢◌, ℕ, zero, suc, ◌+◌, ◌*◌, ◌/◌, ◌%◌, refl, ap, sym, ◌∙◌, subst, arith, List, [], ◌∷◌, Result, Ok, Err}
+use Rattle.std.proofs.Common.{◌≡◌, ◌≢◌, ℕ, zero, suc, ◌+◌, ◌*◌, ◌/◌, ◌%◌, refl, ap, sym, ◌∙◌, subst, arith, [], ◌∷◌, Result, Ok, Err}
 use Rattle.std.proofs.lemmas.Int.{ints, unsigned_abs-mul}
 use Rattle.std.specs.Prelude.{ℤ, pos, negsuc, ◌*ℤ◌, ◌<ℤ◌, unsigned_abs, replicate}
 use Rattle.std.specs.Int.{◌∣◌}
 use Rattle.ring_solver.proofs.Integers.{integers}
 use Rattle.ring_solver.proofs.Linear.{from1}
 use Rattle.ring_solver.proofs.Read.{ring_z, reading_z}
-use Rattle.ring_laws.specs.Answer.{OnFault, fault_weaker}
+use Rattle.ring_laws.specs.Answer.{fault_weaker}
 use Rattle.ring_laws.specs.declared.faults.RingFault.{RingFault}
 use Rattle.poly_fraction.specs.Fractions.{RingFraction}
 use Rattle.hypergeometric.specs.Fraction.{Fraction, fraction_product}

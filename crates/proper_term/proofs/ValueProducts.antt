@@ -1,5 +1,5 @@
 -- The scale times all factors of a value is the term's value.
-use Rattle.std.proofs.Common.{◌≡◌, ◌≢◌, ℕ, zero, suc, ◌*◌, ◌^◌, ◌<◌, refl, ap, sym, ◌∙◌, subst, arith, List, [], ◌∷◌, ◌++◌, map}
+use Rattle.std.proofs.Common.{◌≡◌, ◌≢◌, ℕ, zero, suc, ◌*◌, ◌^◌, ◌<◌, refl, ap, sym, ◌∙◌, subst, arith, List, [], ◌∷◌, ◌++◌}
 use Rattle.std.proofs.Math.Nat.{pow-zero, pow-succ'}
 use Rattle.std.proofs.lemmas.Int.{ints}
 use Rattle.std.specs.Prelude.{ℤ, pos, negsuc, ◌*ℤ◌, ◌≤ℤ◌, unsigned_abs, replicate}
@@ -7,9 +7,9 @@ use Rattle.ring_solver.proofs.Read.{ring_z, reading_z}
 use Rattle.hypergeometric.specs.Fraction.{Fraction, IsDefined, ◌≈◌, of_whole, fraction_product, fraction_inverse, natural_power, whole_power}
 use Rattle.hypergeometric.specs.LinearForm.{Factor, form_value, factorial, factorial_value, inverse_factorial_value, product_over}
 use Rattle.hypergeometric.specs.ProperTerm.{ProperTerm, NoneNegative, NoneZero, IsDefinedAt, IsNonzero, HasFractions, poly_value, proper_value}
-use Rattle.hypergeometric.proofs.Definedness.{natural_power_defined, whole_power_defined, proper_value_defined}
+use Rattle.hypergeometric.proofs.Definedness.{natural_power_defined, proper_value_defined}
 use Rattle.hypergeometric.proofs.FractionLaws.{one_not_zero, product_not_zero, equal_to_itself, equal_turned, equal_chain, equal_products}
-use Rattle.proper_term.specs.Cancelled.{Argument, arguments_at, left_over, quotient, quotients}
+use Rattle.proper_term.specs.Cancelled.{arguments_at, left_over, quotient, quotients}
 use Rattle.proper_term.specs.Runs.{product_of}
 use Rattle.proper_term.specs.ValueBounds.{turned, base_power, divisors, factorial_factors, value_factors}
 use Rattle.proper_term.proofs.CancelledFactorials.{list_product, factorials, left_over_positive, cancelled}

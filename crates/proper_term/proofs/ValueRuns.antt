@@ -1,6 +1,5 @@
 -- Runs of the factors of a value, joined.
-use Rattle.std.proofs.Common.{◌≡◌, ◌≢◌, ℕ, zero, suc, ◌+◌, ◌*◌, ◌<◌, ◌≤◌, refl, ap, sym, ◌∙◌, subst, arith, List, [], ◌∷◌, ◌++◌, Result, Ok, Err}
-use lib.IntN.{pow}
+use Rattle.std.proofs.Common.{◌≡◌, ◌≢◌, ℕ, zero, suc, ◌≤◌, refl, ap, sym, ◌∙◌, subst, arith, List, [], ◌∷◌, ◌++◌, Result, Ok, Err}
 use Rattle.std.proofs.Math.Nat.{eq-one_of_dvd-one}
 use Rattle.std.proofs.lemmas.Int.{ints}
 use Rattle.std.specs.Int.{◌∣◌}
@@ -15,13 +14,12 @@ use Rattle.hypergeometric.specs.FormOrder.{IsFactor}
 use Rattle.hypergeometric.specs.LinearForm.{Factor, form_value, factorial_value, inverse_factorial_value, product_over}
 use Rattle.hypergeometric.specs.ProperTerm.{ProperTerm, IsDefinedAt, NoneNegative, IsNonzero, HasFractions, poly_value, proper_value}
 use Rattle.hypergeometric.specs.TermFacts.{IsLowest, IsProper}
-use Rattle.hypergeometric.proofs.Definedness.{proper_value_defined}
 use Rattle.hypergeometric.proofs.FractionLaws.{one_not_zero, product_not_zero, equal_chain}
 use Rattle.proper_term.specs.Cancelled.{arguments_at, left_over}
 use Rattle.proper_term.proofs.CancelledFactorials.{left_over_positive}
-use Rattle.proper_term.specs.Fields.{whole_fraction, number_fraction}
-use Rattle.proper_term.specs.Runs.{IsInLowestTerms, IsReduced, Runs, RunsInBounds, GivesRun, product_of}
-use Rattle.proper_term.specs.ValueBounds.{turned, base_power, divisors, factorial_factors, value_factors, IsRunInBounds}
+use Rattle.proper_term.specs.Fields.{whole_fraction}
+use Rattle.proper_term.specs.Runs.{IsInLowestTerms, Runs, RunsInBounds, GivesRun, product_of}
+use Rattle.proper_term.specs.ValueBounds.{turned, base_power, factorial_factors, value_factors, IsRunInBounds}
 use Rattle.proper_term.proofs.PowerFractions.{power_parts}
 use Rattle.proper_term.proofs.Runs.{runs_join, bounds_after, bounds_before, run_value, run_lowest}
 use Rattle.proper_term.proofs.ValueProducts.{product_quotients, factors_value}

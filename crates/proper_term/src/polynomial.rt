@@ -49,11 +49,7 @@ fn value_of_coefficients(
 }
 
 // The value of the polynomial, `TooLarge` only where the sum of the magnitudes reaches 2^127.
-pub(crate) fn polynomial_value(
-    alloc: Global,
-    poly: &Znk,
-    point: Point,
-) -> Result<Whole, RingFault>
+pub(crate) fn polynomial_value(alloc: Global, poly: &Znk, point: Point) -> Result<Whole, RingFault>
     ensures value { IfOk result (λ value. value.value ≡ poly_value (⟦<Znk as Ring>⟧.meaning poly.now) point.n point.k) }
     ensures too_large { IfErr result (OnFault (¬ (size_at point.n point.k (⟦<Znk as Ring>⟧.meaning poly.now) < 2 ^ 127))) }
 {

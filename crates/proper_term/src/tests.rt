@@ -148,10 +148,7 @@ fn large_arguments(rt: HostRuntime) -> Result<(), Fail> {
         Some((-8_000_000, 1))
     );
     let zero = term_of(alloc, (0, 1), (2, 1), &[], &[], &[])?;
-    assert_eq!(rt;
-        value_of(alloc, &zero, 1_000_000_000_000, 0)?,
-        Some((0, 1))
-    );
+    assert_eq!(rt; value_of(alloc, &zero, 1_000_000_000_000, 0)?, Some((0, 1)));
     assert_eq!(rt;
         value_of(alloc, &zero, 1_000_000_000_000, 1).err(),
         Some(RingFault::TooLarge)
@@ -229,8 +226,19 @@ fn natural_ranges(rt: HostRuntime) -> Result<(), Fail> {
     Ok(())
 }
 
+// The place of k in the tree of a text that has one.
+fn place_in(alloc: Global, text: &[u8]) -> Option<Option<u32>> {
+    if text.len() > 65_536 {
+        return None;
+    }
+    match read_term(alloc, text) {
+        Ok(tree) => Some(free_of_k(&tree)),
+        Err(_) => None,
+    }
+}
+
 #[test]
-fn places_of_k(rt: HostRuntime) -> Result<(), Fail> {
+fn places_of_k(rt: HostRuntime) {
     let texts: [(&[u8], Option<u32>); 5] = [
         (b"n!+2", None),
         (b"n+k*k", Some(2)),
@@ -239,10 +247,6 @@ fn places_of_k(rt: HostRuntime) -> Result<(), Fail> {
         (b"k!^2", Some(0)),
     ];
     for (text, place) in texts {
-        let Ok(tree) = read_term(rt.alloc(), text) else {
-            return Err(Fail);
-        };
-        assert_eq!(rt; free_of_k(&tree), place);
+        assert_eq!(rt; place_in(rt.alloc(), text), Some(place));
     }
-    Ok(())
 }

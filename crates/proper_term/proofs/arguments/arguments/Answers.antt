@@ -1,4 +1,4 @@
-use Rattle.std.proofs.Common.{◌≡◌, ◌++◌, [], ◌∷◌, ap, sym, ◌∙◌, List, map, take}
+use Rattle.std.proofs.Common.{◌++◌, [], ◌∷◌, ap, sym, ◌∙◌, List, map, take}
 use Rattle.std.specs.Prelude.{unsigned_abs}
 use Rattle.hypergeometric.specs.LinearForm.{Factor, form_value}
 use Rattle.lin_form.specs.Forms.{form_of}

@@ -1,4 +1,4 @@
-use Rattle.std.proofs.Common.{◌<◌, ◌≤◌, ◌≡◌, [], ◌∷◌, ◌++◌, subst, sym, arith}
+use Rattle.std.proofs.Common.{[], ◌∷◌, ◌++◌, subst, arith}
 use Rattle.proper_term.proofs.NextArguments.{passed, found_first, found_lesser}
 use Rattle.proper_term.specs.Cursors.{IsNext}
 use Rattle.proper_term.proofs.arguments.nearer.Goals as goal

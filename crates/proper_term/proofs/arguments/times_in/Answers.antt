@@ -1,4 +1,4 @@
-use Rattle.std.proofs.Common.{◌≡◌, ◌+◌, ◌++◌, [], ◌∷◌, ap, sym, ◌∙◌, ⊎_elim, arith, List, map, take}
+use Rattle.std.proofs.Common.{ap, ◌∙◌, ⊎_elim, arith, List, map, take}
 use Rattle.std.proofs.lemmas.Bool.{cases_lt}
 use Rattle.proper_term.proofs.CancelledFactorials.{counted_above}
 use Rattle.proper_term.specs.Cancelled.{Argument, at_least}

@@ -1,4 +1,4 @@
-use Rattle.std.proofs.Common.{◌≡◌, ◌+◌, ◌-◌, max, sym, ◌∙◌, arith, map}
+use Rattle.std.proofs.Common.{◌+◌, ◌-◌, max, ◌∙◌, arith, map}
 use Rattle.proper_term.specs.Cancelled.{at_least, greatest}
 use Rattle.proper_term.specs.Cursors.{argument_of}
 use Rattle.proper_term.proofs.NumbersLeft.{rising_none, skipped, arrived}

@@ -1,4 +1,4 @@
-use Rattle.std.proofs.Common.{◌≡◌, ◌≢◌, ◌+◌, ◌-◌, max, arith, List, [], ◌∷◌, map, ◌⊎◌, inl, inr}
+use Rattle.std.proofs.Common.{◌≢◌, ◌+◌, ◌-◌, max, arith, [], map, ◌⊎◌, inl, inr}
 use Rattle.ring_laws.specs.Answer.{fault_weaker}
 use Rattle.poly_fraction.specs.FractionOf.{fraction_of}
 use Rattle.proper_term.specs.Cancelled.{at_least, greatest, rising, left_over, quotients}

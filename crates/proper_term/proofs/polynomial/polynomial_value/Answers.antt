@@ -1,7 +1,7 @@
-use Rattle.std.proofs.Common.{◌≡◌, ◌<◌, ◌^◌, ap, sym, ◌∙◌, subst, List, map, take, ℕ}
+use Rattle.std.proofs.Common.{◌≡◌, ◌<◌, ◌^◌, subst, ℕ}
 use Rattle.std.specs.Prelude.{ℤ, unsigned_abs, IfOk, IfErr}
 use Rattle.ring_laws.specs.Answer.{OnFault}
-use Rattle.ring_laws.specs.Meaning.{Meaning, items}
+use Rattle.ring_laws.specs.Meaning.{Meaning}
 use Rattle.lin_form.proofs.Items.{each_of}
 use Rattle.poly_laws.specs.Values.{horner}
 use Rattle.hypergeometric.specs.ProperTerm.{value_in_n}

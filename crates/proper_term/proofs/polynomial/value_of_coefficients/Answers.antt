@@ -1,8 +1,8 @@
-use Rattle.std.proofs.Common.{◌≡◌, ◌-◌, ◌≤◌, ap, sym, ◌∙◌, subst, arith, drop, length}
+use Rattle.std.proofs.Common.{◌≡◌, ap, sym, ◌∙◌, arith, length}
 use Rattle.std.proofs.lemmas.List.{length-map}
-use Rattle.std.specs.Prelude.{ℤ, ◌*ℤ◌, ◌+ℤ◌, pos}
+use Rattle.std.specs.Prelude.{ℤ, ◌*ℤ◌, ◌+ℤ◌}
 use Rattle.ring_laws.specs.Answer.{fault_weaker}
-use Rattle.ring_laws.specs.Meaning.{Meaning, number, listed}
+use Rattle.ring_laws.specs.Meaning.{Meaning}
 use Rattle.lin_form.proofs.Items.{each_of}
 use Rattle.lin_form.proofs.ListProducts.{fault_list}
 use Rattle.poly_laws.specs.Values.{horner}

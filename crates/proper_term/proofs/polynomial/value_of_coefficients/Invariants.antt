@@ -1,10 +1,8 @@
 use Rattle.std.proofs.Common.{◌≡◌, ◌≤◌, drop, length}
-use Rattle.std.specs.Prelude.{unsigned_abs}
 use Rattle.ring_laws.specs.Meaning.{number, listed}
 use Rattle.lin_form.proofs.Items.{each_of}
 use Rattle.poly_laws.specs.Values.{horner}
 use Rattle.hypergeometric.specs.ProperTerm.{value_in_n}
-use Rattle.proper_term.specs.ValueBounds.{sizes, size_in_n}
 use Rattle.proper_term.proofs.polynomial.value_of_coefficients.Given as goal
 
 -- the value of the coefficients from here on

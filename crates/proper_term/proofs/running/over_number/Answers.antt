@@ -1,4 +1,4 @@
-use Rattle.std.proofs.Common.{sym, ◌∙◌, arith}
+use Rattle.std.proofs.Common.{sym, ◌∙◌}
 use Rattle.poly_fraction.specs.FractionOf.{fraction_of}
 use Rattle.proper_term.specs.Fields.{whole_fraction}
 use Rattle.proper_term.proofs.UnitDivisors.{by_last_digit}

@@ -1,4 +1,4 @@
-use Rattle.std.proofs.Common.{◌≡◌, subst, sym, ◌∙◌, arith}
+use Rattle.std.proofs.Common.{◌≡◌, subst, arith}
 use Rattle.std.specs.Prelude.{MatchResult, ℤ}
 use Rattle.ring_laws.specs.Answer.{OnFault}
 use Rattle.hypergeometric.specs.TermFacts.{IsNumber}

@@ -1,6 +1,6 @@
-use Rattle.std.proofs.Common.{◌≡◌, ◌-◌, ap, sym, ◌∙◌, arith, ◌*◌, ◌<◌, ◌^◌}
+use Rattle.std.proofs.Common.{◌≡◌, ◌-◌, ap, ◌∙◌, arith}
 use Rattle.std.proofs.Math.IntN.{pow}
-use Rattle.std.specs.Prelude.{◌*ℤ◌, unsigned_abs, MatchResult}
+use Rattle.std.specs.Prelude.{◌*ℤ◌, MatchResult}
 use Rattle.ring_laws.specs.Wholes.{number_of}
 use Rattle.ring_laws.specs.Answer.{OnFault, fault_weaker}
 use Rattle.hypergeometric.specs.TermFacts.{IsNumber}

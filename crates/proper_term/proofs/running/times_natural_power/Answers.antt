@@ -1,6 +1,4 @@
-use Rattle.std.proofs.Common.{◌≡◌, ◌≢◌, ap, sym, ◌∙◌, subst, true≢false, [], ◌∷◌}
-use lib.IntN.{pow}
-use Rattle.std.specs.Prelude.{ℤ, pos}
+use Rattle.std.proofs.Common.{◌≡◌, ap, sym, ◌∙◌, subst, true≢false, [], ◌∷◌}
 use Rattle.ring_laws.specs.Answer.{fault_weaker}
 use Rattle.ring_laws.specs.Wholes.{is_zero}
 use Rattle.hypergeometric.specs.Fraction.{Fraction, natural_power}

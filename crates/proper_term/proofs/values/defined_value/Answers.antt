@@ -1,8 +1,8 @@
-use Rattle.std.proofs.Common.{refl, sym, ◌∙◌, subst, true≢false, List}
+use Rattle.std.proofs.Common.{refl, sym, subst, true≢false, List}
 use Rattle.std.specs.List.{AllByRecursion}
 use Rattle.std.specs.Prelude.{◌≤ℤ◌, pos}
 use Rattle.hypergeometric.specs.LinearForm.{Factor, form_value}
-use Rattle.hypergeometric.specs.ProperTerm.{proper_value, NoneNegative}
+use Rattle.hypergeometric.specs.ProperTerm.{proper_value}
 use Rattle.hypergeometric.proofs.Definedness.{proper_value_defined}
 use Rattle.poly_fraction.specs.FractionOf.{fraction_of}
 use Rattle.proper_term.specs.Fields.{whole_fraction}

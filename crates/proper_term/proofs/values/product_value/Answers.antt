@@ -1,6 +1,6 @@
-use Rattle.std.proofs.Common.{◌≡◌, sym, ◌∙◌, subst, arith, ◌∷◌}
+use Rattle.std.proofs.Common.{sym, ◌∙◌, subst, arith, ◌∷◌}
 use Rattle.std.proofs.lemmas.Int.{ints}
-use Rattle.std.specs.Prelude.{ℤ, pos}
+use Rattle.std.specs.Prelude.{ℤ}
 use Rattle.ring_laws.specs.Answer.{fault_weaker}
 use Rattle.lin_form.proofs.ListProducts.{fault_list}
 use Rattle.hypergeometric.specs.Fraction.{of_whole}
