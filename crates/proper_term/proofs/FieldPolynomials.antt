@@ -19,7 +19,8 @@ coefficient c = listed (map (λ (w : Whole). number w.value) c.list.items)
 pub polynomial_kept : (cs : List (Poly Whole ghosts)) → IsTrue (is_trimmed (level 1).ops (map coefficient cs)) → length cs ≤ 256
     → IsPolynomial 2 (listed (map coefficient cs))
 polynomial_kept cs ended short = record {
-  passes = value_passes (level 1) coefficient (λ c. value_passes whole_algebra (λ (w : Whole). number w.value) (λ w. refl) c.list.items c.ended) cs ended;
+  passes = value_passes (level 1) coefficient (λ c. value_passes whole_algebra (λ (w : Whole). number w.value)
+      (λ w. refl) c.list.items c.ended) cs ended;
   fits = value_fits (level 1) (level_laws 1) coefficient
       (λ c. value_fits whole_algebra whole_laws (λ (w : Whole). number w.value) (λ w. w.small) c.list.items c.short) cs short;
 }

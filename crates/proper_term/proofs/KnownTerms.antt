@@ -42,7 +42,11 @@ pub powers_left : (left_over (record { number = 3; power = 2 } ∷ []) (record {
 powers_left = (refl, refl)
 
 -- 0 <= k <= n, whichever form comes first, and none without both
-pub ranges : (natural_range (factor_with form_k 1 ∷ factor_with form_other 1 ∷ []) ≡ Some (form_with (pos 0) (pos 0) (pos 0), form_with (pos 1) (pos 0) (pos 0)))
+pub ranges : (natural_range (factor_with form_k 1 ∷ factor_with form_other 1 ∷ []) ≡ Some (
+  form_with (pos 0) (pos 0) (pos 0),
+  form_with (pos 1)
+      (pos 0) (pos 0),
+))
     × (natural_range (factor_with (form_with (pos 2) (pos 1) (pos 3)) 1 ∷ factor_with form_k 1 ∷ factor_with form_other 1 ∷ [])
     ≡ Some (form_with (negsuc 1) (pos 0) (negsuc 2), form_with (pos 1) (pos 0) (pos 0))) × (natural_range (factor_with form_k 1 ∷ []) ≡ None)
 ranges = (refl, refl, refl)

@@ -1,6 +1,7 @@
 pub mod CancelledFactorials
 pub mod DivisorRuns
 pub mod FactTests
+pub mod FactorialProducts
 pub mod FactorialRuns
 pub mod Faults
 pub mod FieldPolynomials
@@ -17,3 +18,4 @@ pub mod UnitDivisors
 pub mod ValueProducts
 pub mod ValueRuns
 pub mod WholePowers
+pub mod ZeroValues

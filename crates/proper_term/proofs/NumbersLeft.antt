@@ -51,7 +51,8 @@ module _ (above below : List Argument) where
   skipped at v none next =
       sym (ap (rising counts (at + 1)) (split at v bound next.from_on next.within)
       ∙ rising_skip counts (at + 1) (v - at) (bound + 1 - v)
-      (λ j le low. let a = next.same_above j le (omega (arith, low, next.from_on)) in let b = next.same_below j le (omega (arith, low, next.from_on)) in
+      (λ j le low. let a = next.same_above j le (omega (arith, low, next.from_on)) in let b = next.same_below j le (omega
+      (arith, low, next.from_on)) in
       omega (arith, a, b, none))
       ∙ ap (λ t. rising counts t (bound + 1 - v)) (joined at v next.from_on))
     where
@@ -85,7 +86,8 @@ later_none zero at later h e = h refl
 later_none (suc copies) at later h e = absurd (omega (arith, e))
 
 -- a pair of numbers
-pub next_pair : (ts bs : List ℕ) → (ts ≢ []) ⊎ (bs ≢ []) → quotients ts bs ≡ quotient (first_of ts) (first_of bs) ∷ quotients (rest_of ts) (rest_of bs)
+pub next_pair : (ts bs : List ℕ) → (ts ≢ []) ⊎ (bs ≢ []) → quotients ts bs ≡ quotient (first_of ts) (first_of bs) ∷ quotients (rest_of ts)
+    (rest_of bs)
 next_pair [] [] (inl h) = absurd (h refl)
 next_pair [] [] (inr h) = absurd (h refl)
 next_pair (t ∷ ts) [] h = refl

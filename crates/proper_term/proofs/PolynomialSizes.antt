@@ -20,7 +20,8 @@ value_number v [] = refl
 value_number v (m ∷ ms) = ap (λ z. number_of m +ℤ v *ℤ z) (value_number v ms)
 
 size_number : (v : ℕ) (ms : List Meaning)
-    → number_of (list_value whole_algebra.ops (number (pos v)) (map whole_algebra.ops.magnitude ms)) ≡ pos (sizes (λ z. unsigned_abs (number_of z)) v ms)
+    → number_of (list_value whole_algebra.ops (number (pos v)) (map whole_algebra.ops.magnitude ms)) ≡ pos (sizes (λ z. unsigned_abs
+    (number_of z)) v ms)
 size_number v [] = refl
 size_number v (m ∷ ms) = ap (λ z. pos (unsigned_abs (number_of m)) +ℤ pos v *ℤ z) (size_number v ms)
 
@@ -66,7 +67,8 @@ pub coefficient_first : {A B : Type 0} (f : A → B) (xs : List A) (power : ℕ)
 coefficient_first f xs zero x some within is = absurd (omega (arith, some))
 coefficient_first f xs (suc i) x some within is =
     ap (λ j. drop j (map f xs)) (last i)
-    ∙ from_index (map f xs) i (f x) (slice_get-map f xs i ∙ ap (option_map f) (slice_get_read xs (length xs) i x refl (omega (arith, within)) (is ∙ ap (λ j. get_or xs j x) (last i))))
+    ∙ from_index (map f xs) i (f x) (slice_get-map f xs i ∙ ap (option_map f) (slice_get_read xs (length xs) i x refl (omega (arith, within)) (is
+    ∙ ap (λ j. get_or xs j x) (last i))))
   where
     last : (i : ℕ) → suc i - 1 ≡ i
     last i = omega arith

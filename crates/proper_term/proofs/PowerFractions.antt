@@ -13,7 +13,8 @@ use Rattle.proper_term.proofs.WholePowers.{pow_next}
 pub power_parts : (a b : ℤ) (e : ℕ) → natural_power (number_fraction a b) e ≡ number_fraction (pow a e) (pow b e)
 unfolding pow one
 power_parts a b zero = refl
-power_parts a b (suc e) = ap (fraction_product (number_fraction a b)) (power_parts a b e) ∙ (λ i. number_fraction (sym (pow_next a e) i) (sym (pow_next b e) i))
+power_parts a b (suc e) = ap (fraction_product (number_fraction a b)) (power_parts a b e) ∙ (λ i. number_fraction (sym (pow_next a e) i) (sym
+    (pow_next b e) i))
 
 -- a factor other than 0 leaves the other factor in bounds
 factor_small : (a c : ℤ) → a ≢ pos 0 → IsNumber (a *ℤ c) → IsNumber c

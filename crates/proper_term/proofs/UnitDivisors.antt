@@ -88,6 +88,7 @@ module _ (r : Fraction) (v : ℤ) (unit : unsigned_abs v ≡ 1) (lowest : IsInLo
   pub by_last_digit : {T : Type 0} (fraction : T → RingFraction) (count : ℕ) (result : Result T RingFault)
       → GivesRun fraction r (replicate (count % 2) over) result → GivesRun fraction r (replicate count over) result
   by_last_digit fraction count (Ok f) h =
-      subst (λ n. Runs r (replicate n over) (whole_fraction (fraction f))) (halves count) (runs_on (count / 2) (count % 2) (whole_fraction (fraction f)) h)
+      subst (λ n. Runs r (replicate n over) (whole_fraction (fraction f))) (halves count) (runs_on (count / 2) (count % 2) (whole_fraction
+      (fraction f)) h)
   by_last_digit fraction count (Err fault) h =
       fault_weaker fault (λ n b. n (bounds_on (count / 2) (count % 2) (subst (λ m. RunsInBounds r (replicate m over)) (sym (halves count)) b))) h

@@ -44,7 +44,8 @@ impl Cursor {
     /// The cursor one number further.
     pub(crate) fn passed(self) -> Cursor
         ensures at { result.at ≡ self.at }
-        ensures rest { (later : List ℕ) → (self.left ≡ 0 → later ≡ []) → replicate result.left self.at ++ later ≡ rest_of (replicate self.left self.at ++ later) }
+        ensures rest { (later : List ℕ) → (self.left ≡ 0 → later ≡ []) → replicate result.left self.at ++ later ≡ rest_of
+            (replicate self.left self.at ++ later) }
     {
         Cursor {
             at: self.at,

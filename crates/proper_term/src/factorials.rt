@@ -23,7 +23,8 @@ pub(crate) fn times_factorials(
     below: &[Argument],
 ) -> Result<Frac<Whole>, RingFault>
     ensures run { GivesRun fraction_of (whole_fraction (fraction_of running))
-        (quotients (left_over (map argument_of above.now) (map argument_of below.now)) (left_over (map argument_of below.now) (map argument_of above.now))) result }
+        (quotients (left_over (map argument_of above.now) (map argument_of below.now)) (left_over (map argument_of below.now)
+        (map argument_of above.now))) result }
 {
     let mut running = running;
     let mut top = Cursor::new().filled(above, below);

@@ -18,6 +18,8 @@ mod proper;
 mod range;
 mod running;
 #[cfg(test)]
+mod term_tests;
+#[cfg(test)]
 mod tests;
 mod values;
 

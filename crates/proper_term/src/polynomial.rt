@@ -20,7 +20,8 @@ fn with_constant(
     rest: Whole,
 ) -> Result<Whole, RingFault>
     ensures value { IfOk result (λ value. value.value ≡ value_in_n (⟦<Zn as Ring>⟧.meaning constant.now) n.value +ℤ k.value *ℤ rest.value) }
-    ensures too_large { IfErr result (OnFault (¬ (size_in_n n.value (⟦<Zn as Ring>⟧.meaning constant.now) + unsigned_abs k.value * unsigned_abs rest.value < 2 ^ 127))) }
+    ensures too_large { IfErr result (OnFault (¬ (size_in_n n.value
+        (⟦<Zn as Ring>⟧.meaning constant.now) + unsigned_abs k.value * unsigned_abs rest.value < 2 ^ 127))) }
 {
     let constant = constant.eval(alloc, &n)?;
     let product = k.mul(alloc, &rest)?;
@@ -37,7 +38,8 @@ fn value_of_coefficients(
 ) -> Result<Whole, RingFault>
     requires counted { k.value ≡ pos 0 → length coefficients.now ≤ 1 }
     ensures value { IfOk result (λ value. value.value ≡ horner (λ c. value_in_n c n.value) k.value (map ⟦<Zn as Ring>⟧.meaning coefficients.now)) }
-    ensures too_large { IfErr result (OnFault (¬ (sizes (size_in_n n.value) (unsigned_abs k.value) (map ⟦<Zn as Ring>⟧.meaning coefficients.now) < 2 ^ 127))) }
+    ensures too_large { IfErr result (OnFault (¬ (sizes (size_in_n n.value) (unsigned_abs k.value)
+        (map ⟦<Zn as Ring>⟧.meaning coefficients.now) < 2 ^ 127))) }
 {
     let mut value = Whole::zero(alloc)?;
     let mut power = coefficients.len();

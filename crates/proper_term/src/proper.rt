@@ -28,9 +28,11 @@ pub struct Proper {
     down: FactorList,
     over: FactorList,
     guard: FactorList,
-    ghost unit_scales: { HaveUnitScales (list_of up) (list_of down) (list_of over) (list_of guard) } by { scales_once (list_of up) (list_of down) (list_of over) (list_of guard) },
+    ghost unit_scales: { HaveUnitScales (list_of up) (list_of down) (list_of over) (list_of guard) } by { scales_once (list_of up) (list_of down)
+        (list_of over) (list_of guard) },
     ghost proper: { IsProper (term_with (⟦<Znk as Ring>⟧.meaning poly) (whole_fraction (fraction_of scale)) (whole_fraction (fraction_of n_base))
-        (whole_fraction (fraction_of k_base)) (list_of up) (list_of down) (list_of over) (list_of guard)) } by { proper_once (term_with (⟦<Znk as Ring>⟧.meaning poly) (whole_fraction (fraction_of scale)) (whole_fraction (fraction_of n_base))
+        (whole_fraction (fraction_of k_base)) (list_of up) (list_of down) (list_of over) (list_of guard)) } by { proper_once (term_with
+            (⟦<Znk as Ring>⟧.meaning poly) (whole_fraction (fraction_of scale)) (whole_fraction (fraction_of n_base))
             (whole_fraction (fraction_of k_base)) (list_of up) (list_of down) (list_of over) (list_of guard)) },
 }
 

@@ -38,7 +38,8 @@ pub(crate) fn times(
 // The number as often as a factor as the exponent says. A number other than 1 and -1 passes the bound within 127 products.
 fn repeated(alloc: Global, base: Whole, exponent: u64) -> Result<Whole, RingFault>
     requires not_zero { base.value ≢ pos 0 }
-    ensures power { MatchResult result (λ power. power.value ≡ pow base.value exponent) (λ fault. OnFault (¬ IsNumber (pow base.value exponent)) fault) }
+    ensures power { MatchResult result (λ power. power.value ≡ pow base.value exponent) (λ fault. OnFault (¬ IsNumber
+        (pow base.value exponent)) fault) }
 {
     let mut left = exponent;
     let mut product = Whole::one(alloc)?;
@@ -52,7 +53,8 @@ fn repeated(alloc: Global, base: Whole, exponent: u64) -> Result<Whole, RingFaul
 // The same for any number but 0: a power of 1 or -1 depends on the exponent's last digit alone.
 fn power(alloc: Global, base: Whole, exponent: u64) -> Result<Whole, RingFault>
     requires not_zero { base.value ≢ pos 0 }
-    ensures power { MatchResult result (λ power. power.value ≡ pow base.value exponent) (λ fault. OnFault (¬ IsNumber (pow base.value exponent)) fault) }
+    ensures power { MatchResult result (λ power. power.value ≡ pow base.value exponent) (λ fault. OnFault (¬ IsNumber
+        (pow base.value exponent)) fault) }
 {
     if magnitude(base) == 1 {
         repeated(alloc, base, exponent % 2)
@@ -72,7 +74,8 @@ fn times_natural_power(
     requires running { (whole_fraction (fraction_of running.now)).top ≢ pos 0 }
     requires top { top.value ≢ pos 0 }
     requires bottom { bottom.value ≢ pos 0 }
-    ensures run { GivesRun fraction_of (whole_fraction (fraction_of running.now)) (natural_power (number_fraction top.value bottom.value) exponent ∷ []) result }
+    ensures run { GivesRun fraction_of (whole_fraction (fraction_of running.now)) (natural_power
+        (number_fraction top.value bottom.value) exponent ∷ []) result }
 {
     let top = power(alloc, top, exponent)?;
     let bottom = power(alloc, bottom, exponent)?;
@@ -88,7 +91,8 @@ pub(crate) fn times_power(
 ) -> Result<Frac<Whole>, RingFault>
     requires running { (whole_fraction (fraction_of running.now)).top ≢ pos 0 }
     requires base { (whole_fraction (fraction_of base.now)).top ≢ pos 0 }
-    ensures run { GivesRun fraction_of (whole_fraction (fraction_of running.now)) (base_power (whole_fraction (fraction_of base.now)) exponent ∷ []) result }
+    ensures run { GivesRun fraction_of (whole_fraction (fraction_of running.now)) (base_power (whole_fraction
+        (fraction_of base.now)) exponent ∷ []) result }
 {
     let times = exponent.unsigned_abs();
     if exponent < 0 {

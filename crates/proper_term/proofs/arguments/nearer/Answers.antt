@@ -14,4 +14,5 @@ returns-in-Some-clause-next c = λ before x is h.
 
 pub returns-in-None-clause-next : goal.returns-in-None-clause-next
 returns-in-None-clause-next c = λ before x is h.
-    subst (λ v. IsNext v c.args.from (before ++ x ∷ [])) is (found_first before x c.args.from c.args.found c.in-None.is (omega (arith, is, c.if-number-from.false)) h)
+    subst (λ v. IsNext v c.args.from (before ++ x ∷ [])) is (found_first before x c.args.from c.args.found c.in-None.is (omega
+    (arith, is, c.if-number-from.false)) h)

@@ -15,7 +15,8 @@ loop-argument-preserved c =
     ∙ last_at_least before (argument_of c.argument-item.result) c.args.number in
     record {
       times = omega (arith, more, c.loop-argument.invariant.times, c.from-times.ensures, c.times_in_one.ensures.times);
-      within = λ some. ⊎_elim (λ low. c.loop-argument.invariant.within (let zero = counted_above c.argument-item.result.number c.argument-item.result.power
+      within = λ some. ⊎_elim (λ low. c.loop-argument.invariant.within
+          (let zero = counted_above c.argument-item.result.number c.argument-item.result.power
           c.args.number low in omega (arith, zero, some, c.from-times.ensures, c.times_in_one.ensures.times)))
           (λ le. omega (arith, le, c.argument-item.result.small)) (cases_lt c.argument-item.result.number c.args.number);
       small = omega (arith, c.loop-argument.invariant.small);

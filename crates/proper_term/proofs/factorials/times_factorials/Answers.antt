@@ -24,7 +24,8 @@ returns-in_err-running c =
     let top = c.number.ensures.number (rising (λ i. at_least us i - at_least ds i) (c.loop-top.top.at + 1)
     (max (greatest us) (greatest ds) + 1 - c.loop-top.top.at)) (later_none c.loop-top.top.left c.loop-top.top.at _ c.loop-top.invariant.top) in
     let bottom = c.number-in-loop-top.ensures.number (rising (λ i. at_least ds i - at_least us i) (c.loop-top.bottom.at + 1)
-    (max (greatest ds) (greatest us) + 1 - c.loop-top.bottom.at)) (later_none c.loop-top.bottom.left c.loop-top.bottom.at _ c.loop-top.invariant.bottom) in
+    (max (greatest ds) (greatest us) + 1 - c.loop-top.bottom.at))
+    (later_none c.loop-top.bottom.left c.loop-top.bottom.at _ c.loop-top.invariant.bottom) in
     record {
       run = handed_on (GivesRun fraction_of (whole_fraction (fraction_of c.args.running)) (quotients (left_over us ds) (left_over ds us)))
           c.from_residual.result c.in_err-running.field-0.0 c.from_residual.ensures.1
@@ -57,7 +58,8 @@ loop-top-preserved c =
     let top = c.number.ensures.number (rising (λ i. at_least us i - at_least ds i) (c.loop-top.top.at + 1)
     (max (greatest us) (greatest ds) + 1 - c.loop-top.top.at)) (later_none c.loop-top.top.left c.loop-top.top.at _ c.loop-top.invariant.top) in
     let bottom = c.number-in-loop-top.ensures.number (rising (λ i. at_least ds i - at_least us i) (c.loop-top.bottom.at + 1)
-    (max (greatest ds) (greatest us) + 1 - c.loop-top.bottom.at)) (later_none c.loop-top.bottom.left c.loop-top.bottom.at _ c.loop-top.invariant.bottom) in
+    (max (greatest ds) (greatest us) + 1 - c.loop-top.bottom.at))
+    (later_none c.loop-top.bottom.left c.loop-top.bottom.at _ c.loop-top.invariant.bottom) in
     record {
       reached = pair_on _ _ _ ts bs _ _ some top bottom c.loop-top.invariant.reached _ c.in_ok-running.ensures.run _ _ c.next-top.ensures.rest
           c.next-bottom.ensures.rest;

@@ -20,7 +20,8 @@ returns-in_err-value-2-clause-too_large c =
     (step_out c.args.n.value c.args.k.value c.loop-power.value.value ms c.loop-power.power (coefficient c.index-coefficients-power.result)
     (omega (arith, c.loop-power-test.true)) (omega (arith, count, c.loop-power.invariant.within))
     (λ e. let few = c.requires.counted e in omega (arith, count, few))
-    (coefficient_first coefficient c.args.coefficients.now c.loop-power.power c.index-coefficients-power.result (omega (arith, c.loop-power-test.true))
+    (coefficient_first coefficient c.args.coefficients.now c.loop-power.power c.index-coefficients-power.result (omega
+    (arith, c.loop-power-test.true))
     c.loop-power.invariant.within c.index-coefficients-power.is) c.loop-power.invariant.value) c.in_err-value-2.ensures.too_large)
 
 -- one more coefficient

@@ -14,7 +14,8 @@ pub returns-in_err-constant-clause-too_large : goal.returns-in_err-constant-clau
 returns-in_err-constant-clause-too_large c =
     let m = listed (map (λ (w : Whole). number w.value) c.args.constant.now.list.items) in
     fault_list _ c.from_residual.result c.in_err-constant.field-0.0 c.from_residual.ensures.1
-    (fault_weaker c.in_err-constant.field-0.0 (λ out h. out (value_in_bounds c.args.n.value (items m) (omega (arith, h)))) c.in_err-constant.ensures.gives)
+    (fault_weaker c.in_err-constant.field-0.0 (λ out h. out (value_in_bounds c.args.n.value (items m) (omega
+    (arith, h)))) c.in_err-constant.ensures.gives)
 
 pub returns-in_err-value-clause-too_large : goal.returns-in_err-value-clause-too_large
 returns-in_err-value-clause-too_large c =
@@ -33,4 +34,5 @@ pub returns-clause-value : goal.returns-clause-value
 returns-clause-value c =
     let m = listed (map (λ (w : Whole). number w.value) c.args.constant.now.list.items) in
     ap number_of c.in_ok-value.ensures.gives.1
-    ∙ (λ i. (ap number_of c.in_ok-constant.ensures.gives.1 ∙ value_number c.args.n.value (items m)) i +ℤ ap number_of c.in_ok-product.ensures.gives.1 i)
+    ∙ (λ i. (ap number_of c.in_ok-constant.ensures.gives.1 ∙ value_number c.args.n.value
+    (items m)) i +ℤ ap number_of c.in_ok-product.ensures.gives.1 i)

@@ -16,7 +16,8 @@ returns c =
     let r = form_of c.in_ok-rising.rising in
     let f = form_of c.in_ok-falling.falling in
     let low : form_of c.form_in_n-low.result ≡ low_end r = c.form_in_n-low.ensures.form ∙ in_n _ _ _ _ (omega (arith, ints)) (omega (arith, ints)) in
-    let high : form_of c.form_in_n-high.result ≡ high_end f = c.form_in_n-high.ensures.form ∙ in_n _ _ _ _ (omega (arith, ints)) (omega (arith, ints)) in
+    let high : form_of c.form_in_n-high.result ≡ high_end f = c.form_in_n-high.ensures.form ∙ in_n _ _ _ _ (omega (arith, ints)) (omega
+    (arith, ints)) in
     let down = (term_of c.args.term.now).down in
     let rising : first_with_slope (pos 1) down ≡ Some r = ap (first_with_slope (pos 1)) (sym c.down.ensures.down) ∙ c.in_ok-rising.ensures.first in
     let falling : first_with_slope (negsuc 0) down ≡ Some f =

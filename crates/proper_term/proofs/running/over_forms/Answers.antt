@@ -13,10 +13,12 @@ use Rattle.proper_term.proofs.running.over_forms.Goals as goal
 
 pub returns-in_err-running : goal.returns-in_err-running
 returns-in_err-running c = record {
-  run = handed_on (GivesRun fraction_of (whole_fraction (fraction_of c.args.running)) (divisors (list_of c.args.over.now).factors c.args.point.n c.args.point.k))
+  run = handed_on (GivesRun fraction_of (whole_fraction (fraction_of c.args.running)) (divisors
+      (list_of c.args.over.now).factors c.args.point.n c.args.point.k))
       c.from_residual.result c.in_err-running.field-0.0 c.from_residual.ensures.1
       (fault_weaker c.in_err-running.field-0.0
-      (reached_fault _ _ _ _ _ (form_next _ _ (list_of c.args.over.now).factors c.loop-index.index (factor_with (form_of c.in-Some.form) c.in-Some.power)
+      (reached_fault _ _ _ _ _ (form_next _ _ (list_of c.args.over.now).factors c.loop-index.index (factor_with
+      (form_of c.in-Some.form) c.in-Some.power)
       c.args.point.n c.args.point.k c.whole_value_of-number.result.value c.in-Some.ensures.item c.whole_value_of-number.ensures.value
       c.loop-index.invariant.reached)) c.in_err-running.ensures.run);
 }

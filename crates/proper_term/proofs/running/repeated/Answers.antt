@@ -14,7 +14,8 @@ returns-in_err-product-2 c = record {
   power = handed_on (λ r. MatchResult r (λ power. power.value ≡ pow c.args.base.value c.args.exponent)
       (λ fault. OnFault (¬ IsNumber (pow c.args.base.value c.args.exponent)) fault)) c.from_residual-in_err-product-2.result c.in_err-product-2.field-0.0 c.from_residual-in_err-product-2.ensures.1
       (fault_weaker c.in_err-product-2.field-0.0
-      (not_less c.loop-left.product.value c.args.base.value (pow c.args.base.value c.args.exponent) c.loop-left.left (omega (arith, c.loop-left-test.true))
+      (not_less c.loop-left.product.value c.args.base.value (pow c.args.base.value c.args.exponent) c.loop-left.left (omega
+      (arith, c.loop-left-test.true))
       c.requires.not_zero c.loop-left.invariant) c.in_err-product-2.ensures.gives);
 }
 

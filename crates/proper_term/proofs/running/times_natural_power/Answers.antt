@@ -39,7 +39,9 @@ pub returns : goal.returns
 returns c =
     let e : number_fraction c.in_ok-top.top.value c.in_ok-bottom.bottom.value
     ≡ natural_power (number_fraction c.args.top.value c.args.bottom.value) c.args.exponent =
-    (λ i. number_fraction (c.in_ok-top.ensures.power i) (c.in_ok-bottom.ensures.power i)) ∙ sym (power_parts c.args.top.value c.args.bottom.value c.args.exponent) in
+    (λ i. number_fraction (c.in_ok-top.ensures.power i) (c.in_ok-bottom.ensures.power i)) ∙ sym
+    (power_parts c.args.top.value c.args.bottom.value c.args.exponent) in
     record {
-      run = subst (λ (x : Fraction). GivesRun fraction_of (whole_fraction (fraction_of c.args.running.now)) (x ∷ []) c.times.result) e c.times.ensures.run;
+      run = subst (λ (x : Fraction). GivesRun fraction_of (whole_fraction (fraction_of c.args.running.now))
+          (x ∷ []) c.times.result) e c.times.ensures.run;
     }

@@ -8,7 +8,8 @@ use Rattle.poly_fraction.specs.FractionOf.{fraction_of}
 use Rattle.proper_term.specs.Fields.{whole_fraction}
 use Rattle.proper_term.specs.TermOf.{term_of}
 use Rattle.proper_term.proofs.ListItems.{negative_all}
-use Rattle.proper_term.proofs.ValueRuns.{err_weaker, zero_equal, zero_lowest, zero_down, proper_fractions}
+use Rattle.proper_term.proofs.ValueRuns.{err_weaker, proper_fractions}
+use Rattle.proper_term.proofs.ZeroValues.{zero_equal, zero_lowest, zero_down}
 use Rattle.proper_term.proofs.values.defined_value.Goals as goal
 
 -- a factorial below is that of a negative number

@@ -12,7 +12,8 @@ use Rattle.proper_term.specs.Runs.{GivesRun}
 use Rattle.proper_term.specs.TermOf.{term_of}
 use Rattle.proper_term.specs.ValueBounds.{base_power, divisors, factorial_factors}
 use Rattle.proper_term.proofs.Runs.{bounds_before}
-use Rattle.proper_term.proofs.ValueRuns.{run_then, value_of_run, lowest_of_run, fault_of_run, zero_equal, zero_lowest, zero_poly, factorials_top, proper_fractions, lowest_nonzero}
+use Rattle.proper_term.proofs.ValueRuns.{run_then, value_of_run, lowest_of_run, fault_of_run, factorials_top, proper_fractions, lowest_nonzero}
+use Rattle.proper_term.proofs.ZeroValues.{zero_equal, zero_lowest, zero_poly}
 use Rattle.proper_term.proofs.values.product_value.Goals as goal
 
 pub returns-in_err-running-clause-too_large : goal.returns-in_err-running-clause-too_large

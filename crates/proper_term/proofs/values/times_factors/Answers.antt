@@ -20,5 +20,6 @@ times_k_power-requires c = record {
       (whole_fraction (fraction_of c.in_ok-running-2.running)) c.in_ok-running-2.ensures.run
       (top_kept (whole_fraction (fraction_of c.args.running.now)) (number_fraction c.args.poly.value (pos 1))
       (whole_fraction (fraction_of c.in_ok-running.running)) c.in_ok-running.ensures.run c.requires.running c.requires.poly)
-      (base_power_top (term_of c.args.term.now).n_base c.args.point.n (lowest_nonzero (term_of c.args.term.now).n_base c.args.term.now.proper.n_base));
+      (base_power_top (term_of c.args.term.now).n_base c.args.point.n (lowest_nonzero
+      (term_of c.args.term.now).n_base c.args.term.now.proper.n_base));
 }
