@@ -5,14 +5,10 @@ use Rattle.std.proofs.lemmas.Bool.{cases_lt}
 use Rattle.std.proofs.Math.Seq.{take-suc}
 use Rattle.std.specs.Prelude.{All}
 use Rattle.std.specs.List.{Contains}
-use Rattle.hypergeometric.specs.Tree.{Tree, tree}
-use Rattle.hypergeometric.specs.Tree as d
-use Rattle.term_text.specs.View.{tree_of, node_of, part_of, parts_of}
-use Rattle.term_text.specs.declared.ast.Ast.{Ast}
-use Rattle.term_text.specs.declared.ast.Node.{Node}
+use Rattle.term_text.specs.View.{tree_of, part_of, parts_of}
 use Rattle.term_text.specs.declared.ast.Part.{Part}
-use Rattle.term_text.proofs.Views.{tree_of-at, part_of-at}
-use Rattle.proper_term.specs.NamesOfK.{k_places, node_k_places, parts_k_places, IsLeast}
+use Rattle.term_text.proofs.Views.{part_of-at}
+use Rattle.proper_term.specs.NamesOfK.{k_places, parts_k_places, IsLeast}
 
 -- the least of a list, where it has an item
 abbrev pub IsLeastOf : Option ℕ → List ℕ → Type 0
@@ -38,10 +34,6 @@ both_least a b xs ys h k = (
         by : (a < b) ⊎ (b ≤ a) → Contains (xs ++ ys) (min a b)
         by (inl h) = chosen (min a b) (inl (omega arith))
         by (inr h) = chosen (min a b) (inr (omega arith))
-
--- the places of a node
-pub places_of : (a : Ast) (n : Node) (m : d.Node) → a.node ≡ n → node_of n ≡ m → k_places (tree_of a) ≡ node_k_places a.at m
-places_of a n m e f = ap k_places (tree_of-at a ∙ ap (tree a.at) (ap node_of e ∙ f))
 
 places_joined : (ps qs : List Part) → parts_k_places (parts_of (ps ++ qs)) ≡ parts_k_places (parts_of ps) ++ parts_k_places (parts_of qs)
 places_joined [] qs = refl

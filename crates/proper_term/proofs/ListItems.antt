@@ -1,24 +1,17 @@
 -- Walks of a list of factors by index.
-use Rattle.std.proofs.Common.{◌≡◌, ◌≢◌, ℕ, ◌+◌, ◌↔◌, refl, ap, sym, ◌∙◌, subst, add-one, List, [], ◌∷◌, Some, None, Bool, true, false, drop, slice_get}
-use Rattle.std.specs.Prelude.{if◌then◌else◌, ℤ, pos, ◌≤ℤ◌, length, ◌<◌, ◌≤◌}
+use Rattle.std.proofs.Common.{◌≡◌, ◌≢◌, ℕ, ◌+◌, ◌↔◌, refl, ap, sym, ◌∙◌, subst, add-one, List, [], ◌∷◌, Some, Bool, true, false, drop, slice_get}
+use Rattle.std.specs.Prelude.{if◌then◌else◌, ℤ, pos, ◌≤ℤ◌}
 use Rattle.std.specs.List.{AllByRecursion}
 use Rattle.std.specs.Ordering.{int_eq}
 use Rattle.std.proofs.lemmas.Bool.Decides.{Decides-int_eq}
 use Rattle.hypergeometric.specs.LinearForm.{Factor, form_value}
 use Rattle.hypergeometric.specs.ProperTerm.{NoneNegative, NoneZero}
-use Rattle.lin_form.proofs.ListProducts.{from_index, item_there, all_dropped}
+use Rattle.lin_form.proofs.ListProducts.{from_index}
 use Rattle.proper_term.specs.NaturalRange.{first_with_slope}
 
 -- what stands at a place begins the list without what is before it
 pub item_first : {A : Type 0} (xs : List A) (i : ℕ) (x : A) → slice_get xs i ≡ Some x → drop i xs ≡ x ∷ drop (i + 1) xs
 item_first xs i x e = from_index xs i x e ∙ ap (λ j. x ∷ drop j xs) (sym (add-one i))
-
--- an index within the list has an item
-pub no_gap : {A : Type 0} (xs : List A) (i : ℕ) → i < length xs → slice_get xs i ≡ None → ⊥
-no_gap xs i h e = differ (item_there xs i h).0 (sym (item_there xs i h).1 ∙ e)
-  where
-    differ : {A : Type 0} (x : A) → Some x ≡ None → ⊥
-    differ x e = cc
 
 -- an item with the slope is the first one
 pub first_here : (slope : ℤ) (xs : List Factor) (i : ℕ) (x : Factor) → slice_get xs i ≡ Some x → x.form.k_slope ≡ slope
@@ -38,9 +31,6 @@ first_later slope xs i x e other =
     not_same true h = absurd (other ((Decides-int_eq x.form.k_slope slope).0 h))
     not_same false h = h
 
-pub first_none : (slope : ℤ) (xs : List Factor) (i : ℕ) → length xs ≤ i → first_with_slope slope (drop i xs) ≡ None
-first_none slope xs i past = ap (first_with_slope slope) (all_dropped xs i past)
-
 -- a fact of each item
 pub all_from : {A : Type 0} (P : A → Type 0) (xs : List A) (i : ℕ) (x : A) → slice_get xs i ≡ Some x
     → (AllByRecursion P (drop i xs) ↔ AllByRecursion P xs) → P x → (AllByRecursion P (drop (i + 1) xs) ↔ AllByRecursion P xs)
@@ -48,14 +38,6 @@ all_from P xs i x e h p = (
   λ rest. h.0 (subst (AllByRecursion P) (sym (item_first xs i x e)) (p, rest)),
   λ all. (subst (AllByRecursion P) (item_first xs i x e) (h.1 all)).1,
 )
-
-pub all_not : {A : Type 0} (P : A → Type 0) (xs : List A) (i : ℕ) (x : A) → slice_get xs i ≡ Some x
-    → (AllByRecursion P (drop i xs) ↔ AllByRecursion P xs) → ¬ P x → ¬ AllByRecursion P xs
-all_not P xs i x e h p all = p (subst (AllByRecursion P) (item_first xs i x e) (h.1 all)).0
-
-pub all_past : {A : Type 0} (P : A → Type 0) (xs : List A) (i : ℕ) → length xs ≤ i
-    → (AllByRecursion P (drop i xs) ↔ AllByRecursion P xs) → AllByRecursion P xs
-all_past P xs i past h = h.0 (subst (AllByRecursion P) (sym (all_dropped xs i past)) tt)
 
 -- no value is negative, and none is 0, as facts of each item
 pub negative_all : (xs : List Factor) (n k : ℤ) → NoneNegative xs n k ↔ AllByRecursion (λ x. pos 0 ≤ℤ form_value x.form n k) xs

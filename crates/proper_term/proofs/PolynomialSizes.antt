@@ -1,12 +1,11 @@
 -- Values of polynomials at a point, and the sizes that bound them.
-use Rattle.std.proofs.Common.{◌≡◌, ℕ, zero, suc, ◌+◌, ◌*◌, ◌<◌, ◌≤◌, ◌^◌, refl, ap, sym, ◌∙◌, subst, arith, List, [], ◌∷◌, map, length, drop, take, get_or, ◌-◌}
+use Rattle.std.proofs.Common.{◌≡◌, ℕ, zero, suc, ◌+◌, ◌*◌, ◌<◌, ◌≤◌, ◌^◌, refl, ap, sym, ◌∙◌, subst, arith, List, [], ◌∷◌, map, length, drop, get_or, ◌-◌}
 use Rattle.std.proofs.Math.Nat.{mul-le-mul_left, mul-le-mul_right}
 use Rattle.std.proofs.lemmas.Int.{ints, unsigned_abs-mul}
 use Rattle.std.proofs.lemmas.Option.{slice_get-map, slice_get_read}
 use Rattle.std.specs.Option.{option_map}
 use Rattle.lin_form.proofs.ListProducts.{from_index}
 use Rattle.std.specs.Prelude.{ℤ, pos, ◌+ℤ◌, ◌*ℤ◌, unsigned_abs}
-use Rattle.ring_solver.proofs.Read.{ring_z, reading_z}
 use Rattle.ring_laws.specs.Meaning.{Meaning, number, listed, items, parted-joined}
 use Rattle.ring_laws.specs.Wholes.{number_of, whole_algebra}
 use Rattle.poly_laws.specs.Evaluation.{list_value, ValueInBounds}
@@ -90,24 +89,6 @@ step_out n k v ms power m some within counted first is out small =
     zero_size : (z : ℤ) → unsigned_abs z ≡ 0 → z ≡ pos 0
     zero_size z e = omega (arith, ints, e)
 
--- at k = 0 only the first coefficient counts
-pub first_value : {A : Type 0} (f : A → ℤ) (k : ℤ) (xs : List A) → k ≡ pos 0 → horner f k (take 1 xs) ≡ horner f k xs
-first_value f k [] e = refl
-first_value f k (x ∷ xs) e =
-    ap (λ z. f x +ℤ z *ℤ pos 0) e ∙ ap (λ z. f x +ℤ z) (sym (nothing (horner f k xs))) ∙ ap (λ z. f x +ℤ z *ℤ horner f k xs) (sym e)
-  where
-    nothing : (z : ℤ) → pos 0 *ℤ z ≡ pos 0
-    nothing z = ring_z (z ∷ []) (search reading_z depth 40 fits 20000) refl
-
-pub first_size : {A : Type 0} (g : A → ℕ) (v : ℕ) (xs : List A) → v ≡ 0 → sizes g v (take 1 xs) ≡ sizes g v xs
-first_size g v [] e = refl
-first_size g zero (x ∷ xs) e = omega arith
-first_size g (suc v) (x ∷ xs) e = absurd (omega (arith, e))
-
 -- the coefficients are the items of the polynomial
 pub coefficients_are : (ms : List Meaning) (p : Meaning) → listed ms ≡ p → ms ≡ items p
 coefficients_are ms p e = sym (parted-joined ms) ∙ ap items e
-
-pub map_taken : {A B : Type 0} (f : A → B) (xs : List A) → map f (take 1 xs) ≡ take 1 (map f xs)
-map_taken f [] = refl
-map_taken f (x ∷ xs) = refl

@@ -32,9 +32,6 @@ pub record Reached (start : Fraction) (all : List Fraction) (running : Fraction)
   pub runs : (s : Fraction) → Runs running rest s → Runs start all s
   pub bounds : RunsInBounds start all → RunsInBounds running rest
 
-pub reached_start : (start : Fraction) (all : List Fraction) → Reached start all start all
-reached_start start all = record { runs = λ s h. h; bounds = λ b. b }
-
 -- some of the factors are passed
 pub reached_on : (start : Fraction) (all : List Fraction) (running : Fraction) (xs rest : List Fraction) (s : Fraction)
     → Reached start all running (xs ++ rest) → Runs running xs s → Reached start all s rest
@@ -46,9 +43,6 @@ reached_on start all running xs rest s h r = record {
 pub reached_fault : (start : Fraction) (all : List Fraction) (running : Fraction) (xs rest : List Fraction)
     → Reached start all running (xs ++ rest) → ¬ RunsInBounds running xs → ¬ RunsInBounds start all
 reached_fault start all running xs rest h n b = n (bounds_before running xs rest (h.bounds b))
-
-pub reached_end : (start : Fraction) (all : List Fraction) (running : Fraction) → Reached start all running [] → Runs start all running
-reached_end start all running h = h.runs running refl
 
 pub grouped : (f g h : Fraction) → IsDefined (fraction_product (fraction_product f g) h)
     → fraction_product (fraction_product f g) h ≈ fraction_product f (fraction_product g h)

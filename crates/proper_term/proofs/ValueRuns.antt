@@ -13,10 +13,10 @@ use Rattle.hypergeometric.proofs.FractionLaws.{product_not_zero, equal_chain}
 use Rattle.proper_term.specs.Cancelled.{arguments_at, left_over}
 use Rattle.proper_term.proofs.CancelledFactorials.{left_over_positive}
 use Rattle.proper_term.specs.Fields.{whole_fraction}
-use Rattle.proper_term.specs.Runs.{IsInLowestTerms, Runs, RunsInBounds, GivesRun, product_of}
+use Rattle.proper_term.specs.Runs.{IsInLowestTerms, Runs, GivesRun, product_of}
 use Rattle.proper_term.specs.ValueBounds.{turned, base_power, factorial_factors, value_factors, IsRunInBounds}
 use Rattle.proper_term.proofs.PowerFractions.{power_parts}
-use Rattle.proper_term.proofs.Runs.{runs_join, bounds_after, bounds_before, run_value, run_lowest}
+use Rattle.proper_term.proofs.Runs.{runs_join, bounds_after, run_value, run_lowest}
 use Rattle.proper_term.proofs.FactorialProducts.{product_quotients}
 use Rattle.proper_term.proofs.ValueProducts.{factors_value}
 use Rattle.proper_term.proofs.WholePowers.{pow_not_zero}
@@ -26,10 +26,6 @@ pub run_then : {T : Type 0} (fraction : T → RingFraction) (r : Fraction) (xs :
     (result : Result T RingFault) → Runs r xs s → GivesRun fraction s ys result → GivesRun fraction r (xs ++ ys) result
 run_then fraction r xs s ys (Ok f) h g = runs_join r xs s ys (whole_fraction (fraction f)) h g
 run_then fraction r xs s ys (Err fault) h g = fault_weaker fault (λ n b. n (bounds_after r xs s ys h b)) g
-
-pub broken_run : (r : Fraction) (xs ys : List Fraction) (fault : RingFault) → OnFault (¬ RunsInBounds r xs) fault
-    → OnFault (¬ RunsInBounds r (xs ++ ys)) fault
-broken_run r xs ys fault h = fault_weaker fault (λ n b. n (bounds_before r xs ys b)) h
 
 -- a run over a factor other than 0 stays other than 0
 pub top_kept : (r x s : Fraction) → Runs r (x ∷ []) s → r.top ≢ pos 0 → x.top ≢ pos 0 → s.top ≢ pos 0
