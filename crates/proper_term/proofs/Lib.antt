@@ -1,0 +1,21 @@
+pub mod CancelledFactorials
+pub mod DivisorRuns
+pub mod FactTests
+pub mod FactorialProducts
+pub mod FactorialRuns
+pub mod Faults
+pub mod FieldPolynomials
+pub mod FormValues
+mod KnownTerms
+pub mod LeastPlaces
+pub mod ListItems
+pub mod NextArguments
+pub mod NumbersLeft
+pub mod PolynomialSizes
+pub mod PowerFractions
+pub mod Runs
+pub mod UnitDivisors
+pub mod ValueProducts
+pub mod ValueRuns
+pub mod WholePowers
+pub mod ZeroValues

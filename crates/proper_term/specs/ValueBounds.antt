@@ -1,0 +1,54 @@
+-- When the value of a term at a point is in bounds: where the running fraction of its factors is.
+use Rattle.std.specs.Prelude.{ℕ, ◌+◌, ◌*◌, ◌^◌, ◌<◌, ℤ, pos, negsuc, suc, unsigned_abs, List, [], ◌∷◌, ◌++◌, replicate}
+use Rattle.ring_laws.specs.Meaning.{Meaning, items}
+use Rattle.ring_laws.specs.Wholes.{number_of}
+use Rattle.hypergeometric.specs.Fraction.{Fraction, of_whole, natural_power}
+use Rattle.hypergeometric.specs.LinearForm.{Factor, form_value}
+use Rattle.hypergeometric.specs.ProperTerm.{ProperTerm, poly_value, IsDefinedAt, NoneNegative}
+use Rattle.proper_term.specs.Cancelled.{arguments_at, left_over, quotients}
+use Rattle.proper_term.specs.Runs.{RunsInBounds}
+
+-- x0 + v*x1 + v^2*x2 + .. of the sizes of the items
+abbrev pub sizes : {A : Type 0} → (A → ℕ) → ℕ → List A → ℕ
+sizes f v [] = 0
+sizes f v (x ∷ xs) = f x + v * sizes f v xs
+
+-- the sum of |coefficient| * |n|^i
+abbrev pub size_in_n : ℤ → Meaning → ℕ
+size_in_n n p = sizes (λ z. unsigned_abs (number_of z)) (unsigned_abs n) (items p)
+
+-- the sum of |coefficient| * |n|^i * |k|^j over all coefficients
+abbrev pub size_at : ℤ → ℤ → Meaning → ℕ
+size_at n k p = sizes (size_in_n n) (unsigned_abs k) (items p)
+
+abbrev pub turned : Fraction → Fraction
+turned f = record { top = f.bottom; bottom = f.top }
+
+-- a power of a fraction other than 0
+abbrev pub base_power : Fraction → ℤ → Fraction
+base_power f (pos n) = natural_power f n
+base_power f (negsuc n) = natural_power (turned f) (suc n)
+
+-- one over the value of each form, as often as its power says
+abbrev pub divisors : List Factor → ℤ → ℤ → List Fraction
+divisors [] n k = []
+divisors (x ∷ xs) n k = replicate x.power (record { top = pos 1; bottom = form_value x.form n k }) ++ divisors xs n k
+
+-- the factors of the quotient of the factorials, without common ones
+abbrev pub factorial_factors : ProperTerm → ℤ → ℤ → List Fraction
+factorial_factors f n k =
+    quotients (left_over (arguments_at n k f.up) (arguments_at n k f.down)) (left_over (arguments_at n k f.down) (arguments_at n k f.up))
+
+-- all factors, in the order in which the scale is multiplied by them
+abbrev pub value_factors : ProperTerm → ℤ → ℤ → List Fraction
+value_factors f n k =
+    factorial_factors f n k ++ (of_whole (poly_value f.poly n k) ∷ base_power f.n_base n ∷ base_power f.k_base k ∷ divisors f.over n k)
+
+-- the polynomial's value, as one operation, and the run of the factors are in bounds
+pub record IsRunInBounds (f : ProperTerm) (n k : ℤ) : Type 0 where
+  pub poly : size_at n k f.poly < 2 ^ 127
+  pub run : RunsInBounds f.scale (value_factors f n k)
+
+-- where the term isn't defined, or a factorial below is that of a negative number, nothing is counted
+abbrev pub ValueInBounds : ProperTerm → ℤ → ℤ → Type 0
+ValueInBounds f n k = IsDefinedAt f n k → NoneNegative f.down n k → IsRunInBounds f n k
