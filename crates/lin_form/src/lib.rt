@@ -14,3 +14,4 @@ mod tests;
 
 pub use factor_lists::FactorList;
 pub use forms::LinForm;
+pub use products::times_power;

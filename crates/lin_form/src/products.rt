@@ -33,7 +33,9 @@ pub fn polynomial_of(alloc: Global, form: LinForm) -> Result<Znk, RingFault>
     Znk::from_coefficients(coefficients)
 }
 
-// The product times the base as often as the power says, by squares of the base.
+/// The product times the base as often as the power says, by squares of the base.
+///
+/// `TooLarge` comes only where no bound of the product times the power of the base's magnitude fits, with 1 for a base that is 0.
 pub fn times_power<R: Ring>(alloc: Global, product: R, base: R, power: u32) -> Result<R, RingFault>
     requires distinct { R.algebra.ops.unit ≢ R.algebra.ops.nought }
     ensures gives { GivesTimes R.meaning R.algebra (R.meaning product) (power_in R.algebra.ops (R.meaning base) power)
