@@ -1,0 +1,99 @@
+-- Constants of trees of the code: by the node that stands there, and by the parts of a sum and of a product.
+use Rattle.std.proofs.Common.{◌≡◌, ℕ, ◌+◌, ◌<◌, ◌≤◌, refl, ap, sym, ◌∙◌, subst, List, [], ◌∷◌, ◌++◌, Bool, true, false, arith, length, get_or, drop, append-nil}
+use Rattle.std.proofs.lemmas.List.{drop_more, drop_all}
+use Rattle.std.specs.Prelude.{Option, Some, None, Result, Ok}
+use Rattle.hypergeometric.specs.Fraction.{Fraction}
+use Rattle.hypergeometric.specs.Tree as d
+use Rattle.hypergeometric.specs.TreePolynomial.{constant_in_k}
+use Rattle.ring_laws.specs.Meaning.{items}
+use Rattle.term_text.specs.View.{tree_of, node_of, part_of, parts_of}
+use Rattle.term_text.specs.declared.ast.Ast.{Ast}
+use Rattle.term_text.specs.declared.ast.Part.{Part}
+use Rattle.term_text.proofs.Views.{tree_of-at, part_of-at}
+use Rattle.term_classes.specs.Steps.{Steps, gives, ◌then◌}
+use Rattle.term_classes.specs.Sought.{FractionFactor, whole_fraction, negative_of, polynomial_sought, node_polynomial_sought, constant_sought, node_constant_sought, constants_sought}
+use Rattle.tree_polynomials.specs.Answers.{HasCause, Answers}
+use Rattle.tree_polynomials.specs.ConstantCases.{negative_sought}
+use Rattle.tree_polynomials.specs.declared.faults.TermFault.{TermFault}
+use Rattle.tree_polynomials.proofs.AnswerLaws.{later_answer}
+use Rattle.tree_polynomials.proofs.PartsSought.{Continues, part_first, part_done, part_none, part_fault}
+
+-- where a tree has no polynomial, its node decides
+pub other_answer : {T : Type 0} (view : T → Option Fraction) (a : Ast) (node : d.Node) (s : Steps (Option Fraction)) (result : Result T TermFault)
+    → node_of a.node ≡ node → node_constant_sought a.at node ≡ s → (polynomial_sought (tree_of a)).outcome ≡ Ok None → Answers view s result
+    → Answers view (constant_sought (tree_of a)) result
+other_answer view a node s result e same none h =
+    let here : tree_of a ≡ d.tree a.at node = tree_of-at a ∙ ap (d.tree a.at) e in
+    subst (λ t. Answers view (constant_sought t) result) (sym here)
+    (later_answer view (node_polynomial_sought a.at node) (λ p. elim p as (λ _. Steps (Option Fraction)) [
+      | Some q ↦ gives (whole_fraction (constant_in_k (items q)))
+      | None ↦ node_constant_sought a.at node
+    ]) None result (subst (λ t. (polynomial_sought t).outcome ≡ Ok None) here none) (subst (λ s. Answers view s result) (sym same) h))
+
+-- the one part of a sum
+pub only_part : (ps : List Part) (p : Part) (turned : Bool) → 1 ≤ length ps → length ps < 2 → p ≡ get_or ps 0 p → p.turned ≡ turned
+    → parts_of ps ≡ d.part turned (tree_of p.ast) d.no_parts
+only_part [] p turned some few is e = absurd (omega (arith, some))
+only_part (q ∷ []) p turned some few is e =
+    ap (λ x. d.part x.0 x.1 d.no_parts) (ap part_of (sym is) ∙ part_of-at p) ∙ ap (λ b. d.part b (tree_of p.ast) d.no_parts) e
+only_part (q ∷ r ∷ ps) p turned some few is e = absurd (omega (arith, few))
+
+-- behind a minus
+pub negated_answer : {T : Type 0} (view : T → Option Fraction) (ps : List Part) (p : Part) (result : Result T TermFault)
+    → parts_of ps ≡ d.part true (tree_of p.ast) d.no_parts → Answers view (constant_sought (tree_of p.ast) then (λ f. gives (negative_of f))) result
+    → Answers view (negative_sought (parts_of ps)) result
+negated_answer view ps p result one h = subst (λ ps. Answers view (negative_sought ps) result) (sym one) h
+
+-- a sum of more parts has no constant of its own
+pub several_parts : (ps : List Part) → 2 ≤ length ps → (negative_sought (parts_of ps)).outcome ≡ Ok None
+several_parts [] h = absurd (omega (arith, h))
+several_parts (p ∷ []) h = absurd (omega (arith, h))
+several_parts (p ∷ q ∷ ps) h = by (part_of p).0
+  where
+    by : (turned : Bool) → (negative_sought (d.part turned (part_of p).1 (parts_of (q ∷ ps)))).outcome ≡ Ok None
+    by true = refl
+    by false = refl
+
+-- the part at an index comes next
+next_part : (ps : List Part) (i : ℕ) (p : Part) → i < length ps → p ≡ get_or ps i p
+    → parts_of (drop i ps) ≡ d.part p.turned (tree_of p.ast) (parts_of (drop (i + 1) ps))
+next_part ps i p below is =
+    ap parts_of (drop_more ps i p below)
+    ∙ ap (λ x. d.part x.0 x.1 (parts_of (drop (i + 1) ps))) (ap part_of (sym is) ∙ part_of-at p)
+
+-- the constants of the parts before an index are found
+abbrev pub FoundBefore : List Part → ℕ → List FractionFactor → Type 0
+FoundBefore ps i done = Continues (constants_sought (parts_of ps)) (constants_sought (parts_of (drop i ps))) done
+
+module _ (ps : List Part) (i : ℕ) (p : Part) (done : List FractionFactor) (below : i < length ps) (is : p ≡ get_or ps i p)
+    (h : FoundBefore ps i done) where
+  abbrev whole : Steps (Option (List FractionFactor))
+  whole = constants_sought (parts_of ps)
+
+  abbrev part_steps : Steps (Option Fraction)
+  part_steps = constant_sought (tree_of p.ast)
+
+  abbrev rest : Steps (Option (List FractionFactor))
+  rest = constants_sought (parts_of (drop (i + 1) ps))
+
+  abbrev factor_with : Fraction → FractionFactor
+  factor_with f = (p.turned, f)
+
+  here : Continues whole (part_first part_steps factor_with rest) done
+  here = subst (λ (qs : d.Parts). Continues whole (constants_sought qs) done) (next_part ps i p below is) h
+
+  -- one more constant, none, or its fault
+  pub constant_done : (f : Fraction) → (constant_sought (tree_of p.ast)).outcome ≡ Ok (Some f) → FoundBefore ps (i + 1) (done ++ (p.turned, f) ∷ [])
+  constant_done f e = part_done part_steps factor_with rest whole done f here e
+
+  pub constant_none : (constant_sought (tree_of p.ast)).outcome ≡ Ok None → (constants_sought (parts_of ps)).outcome ≡ Ok None
+  constant_none e = part_none part_steps factor_with rest whole done here e
+
+  pub constant_fault : (x : TermFault) → HasCause (constant_sought (tree_of p.ast)) x → HasCause (constants_sought (parts_of ps)) x
+  constant_fault x e = part_fault part_steps factor_with rest whole done x here e
+
+-- past the last part the constants so far are all
+pub all_found : (ps : List Part) (i : ℕ) (done : List FractionFactor) → length ps ≤ i → FoundBefore ps i done
+    → (constants_sought (parts_of ps)).outcome ≡ Ok (Some done)
+all_found ps i done past h =
+    h.gives_more [] (ap (λ qs. (constants_sought (parts_of qs)).outcome) (drop_all i ps past)) ∙ ap (λ t. Ok (Some t)) (append-nil done)

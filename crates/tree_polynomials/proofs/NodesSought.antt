@@ -1,0 +1,88 @@
+-- What is sought of a tree by the node that stands there.
+use Rattle.std.proofs.Common.{◌≡◌, ap, sym, ◌∙◌, subst, List, IsErrAnd}
+use Rattle.std.specs.Prelude.{pos, unsigned_abs, Option, Some, None, Result, Ok}
+use Rattle.ring_laws.specs.Meaning.{Meaning}
+use Rattle.ring_laws.specs.declared.wholes.Whole.{Whole}
+use Rattle.hypergeometric.specs.Tree as d
+use Rattle.hypergeometric.specs.TreePolynomial.{in_n_and_k, poly_n, poly_k}
+use Rattle.term_text.specs.declared.ast.Ast.{Ast}
+use Rattle.term_text.specs.declared.ast.Part.{Part}
+use Rattle.term_text.specs.declared.ast.Node.TheVariants.{Literal, N, K, Sum, Product, Pow}
+use Rattle.term_text.specs.View.{tree_of, node_of, parts_of}
+use Rattle.term_text.proofs.Views.{node_of-literal, node_of-n, node_of-k, node_of-sum, node_of-product, node_of-pow, tree_of-at}
+use Rattle.term_classes.specs.Steps.{Steps, of_polynomial, gives, ◌then◌}
+use Rattle.term_classes.specs.Sought.{sum_of_polynomials, product_of_polynomials, sizes_added, sizes_multiplied, made_of, raised_at, polynomial_sought, node_polynomial_sought, summands_sought, factors_sought}
+use Rattle.tree_polynomials.specs.Answers.{HasCause, Answers}
+use Rattle.tree_polynomials.specs.Exponents.{raised_to}
+use Rattle.tree_polynomials.specs.Views.{found}
+use Rattle.tree_polynomials.specs.declared.faults.TermFault.{TermFault}
+use Rattle.tree_polynomials.proofs.AnswerLaws.{later_answer, fault_answer}
+
+-- an answer of the same steps
+pub same_answer : {T A : Type 0} (result : Result T TermFault) (view : T → A) (s t : Steps A) → s ≡ t → Answers view t result → Answers view s result
+same_answer result view s t e h = subst (λ u. Answers view u result) (sym e) h
+
+node_sought : (a : Ast) (node : d.Node) → node_of a.node ≡ node → polynomial_sought (tree_of a) ≡ node_polynomial_sought a.at node
+node_sought a node e = ap polynomial_sought (tree_of-at a) ∙ ap (node_polynomial_sought a.at) e
+
+pub literal_sought : (a : Ast) (w : Whole) → a.node ≡ Literal w
+    → polynomial_sought (tree_of a) ≡ gives (Some (in_n_and_k.whole (pos (unsigned_abs w.value))))
+literal_sought a w e = node_sought a (d.literal (unsigned_abs w.value)) (ap node_of e ∙ node_of-literal w)
+
+pub n_sought : (a : Ast) → a.node ≡ N → polynomial_sought (tree_of a) ≡ gives (Some poly_n)
+n_sought a e = node_sought a d.variable_n (ap node_of e ∙ node_of-n)
+
+pub k_sought : (a : Ast) → a.node ≡ K → polynomial_sought (tree_of a) ≡ gives (Some poly_k)
+k_sought a e = node_sought a d.variable_k (ap node_of e ∙ node_of-k)
+
+pub sum_sought : (a : Ast) (ps : List Part) → a.node ≡ Sum ps
+    → polynomial_sought (tree_of a)
+    ≡ (summands_sought (parts_of ps) then made_of a.at (λ ps. of_polynomial (sizes_added ps)) sum_of_polynomials)
+sum_sought a ps e = node_sought a (d.sum_of (parts_of ps)) (ap node_of e ∙ node_of-sum ps)
+
+pub product_sought : (a : Ast) (ps : List Part) → a.node ≡ Product ps
+    → polynomial_sought (tree_of a)
+    ≡ (factors_sought (parts_of ps) then made_of a.at (λ ps. of_polynomial (sizes_multiplied ps)) product_of_polynomials)
+product_sought a ps e = node_sought a (d.product_of (parts_of ps)) (ap node_of e ∙ node_of-product ps)
+
+pub power_sought : (a base exponent : Ast) → a.node ≡ Pow base exponent
+    → polynomial_sought (tree_of a)
+    ≡ raised_to (polynomial_sought (tree_of exponent)) (λ power. polynomial_sought (tree_of base) then raised_at a.at power)
+power_sought a base exponent e = node_sought a (d.power_of (tree_of base) (tree_of exponent)) (ap node_of e ∙ node_of-pow base exponent)
+
+-- a sum, from what was found of its parts
+pub sum_answer : {T U : Type 0} (result : Result (Option T) TermFault) (x : Option U) (a : Ast) (ps qs : List Part) (view : T → Meaning)
+    (given : U → List Meaning) → a.node ≡ Sum ps → qs ≡ ps → (summands_sought (parts_of qs)).outcome ≡ Ok (found given x)
+    → Answers (found view) (made_of a.at (λ ps. of_polynomial (sizes_added ps)) sum_of_polynomials (found given x)) result
+    → Answers (found view) (polynomial_sought (tree_of a)) result
+sum_answer result x a ps qs view given e h o k =
+    same_answer result (found view) (polynomial_sought (tree_of a))
+    (summands_sought (parts_of qs) then made_of a.at (λ ps. of_polynomial (sizes_added ps)) sum_of_polynomials)
+    (sum_sought a qs (e ∙ ap Sum (sym h)))
+    (later_answer (found view) (summands_sought (parts_of qs)) (made_of a.at (λ ps. of_polynomial (sizes_added ps)) sum_of_polynomials)
+    (found given x) result o k)
+
+-- and a product
+pub product_answer : {T U : Type 0} (result : Result (Option T) TermFault) (x : Option U) (a : Ast) (ps qs : List Part) (view : T → Meaning)
+    (given : U → List Meaning) → a.node ≡ Product ps → qs ≡ ps → (factors_sought (parts_of qs)).outcome ≡ Ok (found given x)
+    → Answers (found view) (made_of a.at (λ ps. of_polynomial (sizes_multiplied ps)) product_of_polynomials (found given x)) result
+    → Answers (found view) (polynomial_sought (tree_of a)) result
+product_answer result x a ps qs view given e h o k =
+    same_answer result (found view) (polynomial_sought (tree_of a))
+    (factors_sought (parts_of qs) then made_of a.at (λ ps. of_polynomial (sizes_multiplied ps)) product_of_polynomials)
+    (product_sought a qs (e ∙ ap Product (sym h)))
+    (later_answer (found view) (factors_sought (parts_of qs)) (made_of a.at (λ ps. of_polynomial (sizes_multiplied ps)) product_of_polynomials)
+    (found given x) result o k)
+
+-- a fault that is passed on
+pub fault_passed : {T A : Type 0} (result : Result T TermFault) (x : TermFault) (view : T → A) (s : Steps A) → IsErrAnd result (λ y. y ≡ x)
+    → HasCause s x → Answers view s result
+fault_passed result x view s e h = fault_answer view s result x e h
+
+-- what was found, or that nothing was
+pub some_found : {T A : Type 0} (x : Option T) (y : T) (view : T → A) (s : Steps (Option A)) → s.outcome ≡ Ok (found view x) → x ≡ Some y
+    → s.outcome ≡ Ok (Some (view y))
+some_found x y view s e h = e ∙ ap (λ t. Ok (found view t)) h
+
+pub none_found : {T A : Type 0} (x : Option T) (view : T → A) (s : Steps (Option A)) → s.outcome ≡ Ok (found view x) → x ≡ None → s.outcome ≡ Ok None
+none_found x view s e h = e ∙ ap (λ t. Ok (found view t)) h

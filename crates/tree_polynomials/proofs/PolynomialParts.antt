@@ -1,0 +1,94 @@
+-- The polynomials of the parts of a sum and of a product, part by part.
+use Rattle.std.proofs.Common.{◌≡◌, ℕ, ◌+◌, ◌<◌, ◌≤◌, Bool, true, false, refl, ap, sym, ◌∙◌, subst, arith, List, [], ◌∷◌, ◌++◌, map, length, drop, get_or, append-nil}
+use Rattle.std.proofs.lemmas.List.{map-append}
+use Rattle.std.proofs.lemmas.Grind.{common_steps}
+use Rattle.std.specs.Prelude.{not, if◌then◌else◌, Option, Some, None, Ok}
+use Rattle.ring_laws.specs.Meaning.{Meaning}
+use Rattle.hypergeometric.specs.Tree.{Parts, part, no_parts}
+use Rattle.lin_form.proofs.ListProducts.{all_dropped}
+use Rattle.term_text.specs.declared.ast.Part.{Part}
+use Rattle.term_text.specs.View.{tree_of, parts_of}
+use Rattle.term_text.proofs.Views.{part_of-at}
+use Rattle.term_classes.specs.Steps.{Steps}
+use Rattle.term_classes.specs.Sought.{polynomial_sought, summands_sought, factors_sought, signed_polynomial}
+use Rattle.tree_polynomials.specs.Answers.{HasCause}
+use Rattle.tree_polynomials.specs.declared.faults.TermFault.{TermFault}
+use Rattle.tree_polynomials.proofs.PartsSought.{Continues, part_first, part_done, part_none, part_fault}
+
+-- the part that is next
+next_part : (ps : List Part) (i : ℕ) (p : Part) → i < length ps → p ≡ get_or ps i p
+    → parts_of (drop i ps) ≡ part p.turned (tree_of p.ast) (parts_of (drop (i + 1) ps))
+next_part ps i p h e = ap parts_of (drop_at ps i p h e) ∙ ap (λ x. part x.0 x.1 (parts_of (drop (i + 1) ps))) (part_of-at p)
+  where
+    drop_at : (ps : List Part) (i : ℕ) (p : Part) → i < length ps → p ≡ get_or ps i p → drop i ps ≡ p ∷ drop (i + 1) ps
+    drop_at ps i p h e = grind (arith, common_steps)
+
+-- the parts of a sum
+module _ (ps : List Part) (i : ℕ) (p : Part) (done : List Meaning) (below : i < length ps) (is : p ≡ get_or ps i p)
+    (h : Continues (summands_sought (parts_of ps)) (summands_sought (parts_of (drop i ps))) done) where
+  abbrev sums_behind : Steps (Option (List Meaning))
+  sums_behind = summands_sought (parts_of (drop (i + 1) ps))
+
+  there : Continues (summands_sought (parts_of ps)) (part_first (polynomial_sought (tree_of p.ast)) (signed_polynomial p.turned) sums_behind) done
+  there = subst (λ t. Continues (summands_sought (parts_of ps)) (summands_sought t) done) (next_part ps i p below is) h
+
+  pub summand_done : (q m : Meaning) → (polynomial_sought (tree_of p.ast)).outcome ≡ Ok (Some q) → m ≡ signed_polynomial p.turned q
+      → Continues (summands_sought (parts_of ps)) sums_behind (done ++ m ∷ [])
+  summand_done q m e same =
+      subst (λ t. Continues (summands_sought (parts_of ps)) sums_behind (done ++ t ∷ [])) (sym same)
+      (part_done (polynomial_sought (tree_of p.ast)) (signed_polynomial p.turned) sums_behind (summands_sought (parts_of ps)) done q there e)
+
+  pub summand_none : (polynomial_sought (tree_of p.ast)).outcome ≡ Ok None → (summands_sought (parts_of ps)).outcome ≡ Ok None
+  summand_none e = part_none (polynomial_sought (tree_of p.ast)) (signed_polynomial p.turned) sums_behind (summands_sought (parts_of ps)) done there e
+
+  pub summand_fault : (x : TermFault) → HasCause (polynomial_sought (tree_of p.ast)) x → HasCause (summands_sought (parts_of ps)) x
+  summand_fault x k =
+      part_fault (polynomial_sought (tree_of p.ast)) (signed_polynomial p.turned) sums_behind (summands_sought (parts_of ps)) done x there k
+
+-- those of a product
+module _ (ps : List Part) (i : ℕ) (p : Part) (done : List Meaning) (below : i < length ps) (is : p ≡ get_or ps i p)
+    (h : Continues (factors_sought (parts_of ps)) (factors_sought (parts_of (drop i ps))) done) where
+  abbrev products_behind : Steps (Option (List Meaning))
+  products_behind = factors_sought (parts_of (drop (i + 1) ps))
+
+  turned_to : (b : Bool) → p.turned ≡ b
+      → Continues (factors_sought (parts_of ps)) (factors_sought (part b (tree_of p.ast) (parts_of (drop (i + 1) ps)))) done
+  turned_to b e =
+      subst (λ t. Continues (factors_sought (parts_of ps)) (factors_sought t) done)
+      (next_part ps i p below is ∙ ap (λ b. part b (tree_of p.ast) (parts_of (drop (i + 1) ps))) e) h
+
+  pub factor_turned : p.turned ≡ true → (factors_sought (parts_of ps)).outcome ≡ Ok None
+  factor_turned e = (turned_to true e).none refl
+
+  pub factor_done : (q : Meaning) → p.turned ≡ false → (polynomial_sought (tree_of p.ast)).outcome ≡ Ok (Some q)
+      → Continues (factors_sought (parts_of ps)) products_behind (done ++ q ∷ [])
+  factor_done q f e =
+      part_done (polynomial_sought (tree_of p.ast)) (λ m. m) products_behind (factors_sought (parts_of ps)) done q (turned_to false f) e
+
+  pub factor_none : p.turned ≡ false → (polynomial_sought (tree_of p.ast)).outcome ≡ Ok None → (factors_sought (parts_of ps)).outcome ≡ Ok None
+  factor_none f e = part_none (polynomial_sought (tree_of p.ast)) (λ m. m) products_behind (factors_sought (parts_of ps)) done (turned_to false f) e
+
+  pub factor_fault : (x : TermFault) → p.turned ≡ false → HasCause (polynomial_sought (tree_of p.ast)) x → HasCause (factors_sought (parts_of ps)) x
+  factor_fault x f k =
+      part_fault (polynomial_sought (tree_of p.ast)) (λ m. m) products_behind (factors_sought (parts_of ps)) done x (turned_to false f) k
+
+-- past the last part
+all_done : (ps : List Part) (i : ℕ) (f : Parts → Steps (Option (List Meaning))) (done : List Meaning) → length ps ≤ i
+    → (f no_parts).outcome ≡ Ok (Some []) → Continues (f (parts_of ps)) (f (parts_of (drop i ps))) done → (f (parts_of ps)).outcome ≡ Ok (Some done)
+all_done ps i f done past none h =
+    h.gives_more [] (ap (λ t. (f (parts_of t)).outcome) (all_dropped ps i past) ∙ none) ∙ ap (λ t. Ok (Some t)) (append-nil done)
+
+pub summands_done : (ps : List Part) (i : ℕ) (done : List Meaning) → length ps ≤ i
+    → Continues (summands_sought (parts_of ps)) (summands_sought (parts_of (drop i ps))) done
+    → (summands_sought (parts_of ps)).outcome ≡ Ok (Some done)
+summands_done ps i done past h = all_done ps i summands_sought done past refl h
+
+pub factors_done : (ps : List Part) (i : ℕ) (done : List Meaning) → length ps ≤ i
+    → Continues (factors_sought (parts_of ps)) (factors_sought (parts_of (drop i ps))) done → (factors_sought (parts_of ps)).outcome ≡ Ok (Some done)
+factors_done ps i done past h = all_done ps i factors_sought done past refl h
+
+-- one more polynomial on the list
+pub pushed : {T : Type 0} (new old : List T) (x : T) (ok err : Bool) (view : T → Meaning) → new ≡ (if ok then old ++ x ∷ [] else old) → ok ≡ not err
+    → err ≡ false → map view new ≡ map view old ++ view x ∷ []
+pushed new old x ok err view h negation e =
+    ap (map view) (h ∙ ap (λ b. if b then old ++ x ∷ [] else old) (negation ∙ ap not e)) ∙ map-append view old (x ∷ [])

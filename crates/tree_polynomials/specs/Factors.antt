@@ -1,0 +1,11 @@
+-- What the factors of a product stand for.
+use Rattle.std.specs.Prelude.{List, map}
+use Rattle.term_classes.specs.Sought.{FractionFactor}
+use Rattle.tree_polynomials.specs.Views.{fraction_value}
+use Rattle.tree_polynomials.specs.declared.factors.Factor.{Factor}
+
+abbrev pub factor_of : Factor → FractionFactor
+factor_of factor = (factor.turned, fraction_value factor.fraction)
+
+abbrev pub factors_of : List Factor → List FractionFactor
+factors_of factors = map factor_of factors

@@ -1,0 +1,5 @@
+pub mod Answers
+pub mod Exponents
+pub mod Views
+pub mod Factors
+pub mod ConstantCases

@@ -1,0 +1,21 @@
+-- What values of the code stand for, where there are any.
+use Rattle.std.specs.Prelude.{ℤ, Option, Some, None}
+use Rattle.ring_laws.specs.declared.domains.Domain.{Ghosts as DomainGhosts}
+use Rattle.ring_laws.specs.declared.rings.Ring.{Ghosts as RingGhosts}
+use Rattle.poly_fraction.specs.FractionOf.{fraction_of}
+use Rattle.poly_fraction.specs.declared.fractions.Frac.{Frac}
+use Rattle.ring_laws.specs.declared.wholes.Whole.{Whole}
+use Rattle.hypergeometric.specs.Fraction.{Fraction}
+use Rattle.proper_term.specs.Fields.{whole_fraction}
+
+abbrev pub whole_value : Whole → ℤ
+whole_value whole = whole.value
+
+-- what a value stands for, where there is one
+abbrev pub found : {T A : Type 0} → (T → A) → Option T → Option A
+found view None = None
+found view (Some x) = Some (view x)
+
+-- a fraction of whole numbers as a fraction of numbers
+abbrev pub fraction_value : {domain : DomainGhosts Whole} {ring : RingGhosts Whole} → Frac Whole domain ring → Fraction
+fraction_value f = whole_fraction (fraction_of f)

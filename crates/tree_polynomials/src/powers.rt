@@ -1,0 +1,30 @@
+//! A number times a power of another.
+
+ghost use Rattle.std.specs.Prelude.{◌*◌, ◌*ℤ◌};
+ghost use Rattle.std.proofs.Math.IntN.{pow};
+ghost use Rattle.term_classes.specs.Steps.{makes, of_number};
+ghost use Rattle.term_classes.specs.Divisors.{nonzero_size};
+ghost use Rattle.tree_polynomials.specs.Answers.{Answers};
+ghost use Rattle.tree_polynomials.specs.Views.{whole_value};
+
+use crate::faults::{TermFault, fault_at};
+use lin_form::times_power;
+use ring_laws::Whole;
+use std::alloc::Global;
+
+// The product times the base as often as the power says, as an operation of the node at the place.
+pub(crate) fn number_times_power(
+    alloc: Global,
+    at: u32,
+    product: Whole,
+    base: Whole,
+    power: u32,
+) -> Result<Whole, TermFault>
+    ensures answers { Answers whole_value (makes at (of_number (nonzero_size product.value * nonzero_size (pow base.value power)))
+        (product.value *ℤ pow base.value power)) result }
+{
+    match times_power(alloc, product, base, power) {
+        Ok(product) => Ok(product),
+        Err(fault) => Err(fault_at(at, fault)),
+    }
+}
