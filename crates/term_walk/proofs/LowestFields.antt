@@ -1,0 +1,47 @@
+-- Fractions of the code in lowest terms.
+use Rattle.std.proofs.Common.{◌≡◌, ◌≢◌, ℕ, ap, sym, ◌∙◌, subst, false, true≢false, arith}
+use Rattle.std.proofs.lemmas.Int.{ints}
+use Rattle.std.proofs.lemmas.Nat.Gcd.{dvd_antisymm}
+use Rattle.std.proofs.Math.Nat.{one-dvd}
+use Rattle.std.specs.Prelude.{ℤ, pos, Ok}
+use Rattle.ring_laws.specs.Wholes.{is_zero}
+use Rattle.hypergeometric.specs.Fraction.{Fraction, of_whole, fraction_product}
+use Rattle.hypergeometric.specs.ProperTerm.{IsNonzero}
+use Rattle.hypergeometric.proofs.FractionLaws.{product_not_zero}
+use Rattle.poly_fraction.specs.Fractions.{RingFraction}
+use Rattle.poly_fraction.specs.LowestTerms.{IsLowest}
+use Rattle.proper_term.specs.Fields.{whole_fraction}
+use Rattle.term_classes.specs.Divisors.{lowest_terms, raised_fraction}
+use Rattle.term_classes.specs.Walk.{times_power}
+use Rattle.term_classes.proofs.LowestTerms.{raised_nonzero}
+use Rattle.term_classes.proofs.ReducedFractions.{HasLowestTerms, lowest_has_terms}
+use Rattle.term_classes.proofs.StepLaws.{same_Ok}
+
+pub has_terms : (f : RingFraction) → IsLowest f → HasLowestTerms (whole_fraction f)
+has_terms f h = record { positive = h.positive; coprime = h.coprime }
+
+pub is_lowest : (f : RingFraction) (s : Fraction) → whole_fraction f ≡ s → HasLowestTerms s → IsLowest f
+is_lowest f s e h = from (subst HasLowestTerms (sym e) h)
+  where
+    from : HasLowestTerms (whole_fraction f) → IsLowest f
+    from h = record { positive = h.positive; coprime = h.coprime }
+
+pub lowest_defined : (f : RingFraction) → IsLowest f → (whole_fraction f).bottom ≢ pos 0
+lowest_defined f h z = omega (arith, ints, z, h.positive)
+
+-- what the test of the code says of a denominator
+pub tested_nonzero : (z : ℤ) → is_zero z ≡ false → z ≢ pos 0
+tested_nonzero z h e = true≢false (sym (ap is_zero e) ∙ h)
+
+-- a fraction times a power of another one is in lowest terms
+pub power_lowest : (at : ℕ) (f g : Fraction) (w : ℤ) (r : RingFraction) → f.bottom ≢ pos 0 → IsNonzero g
+    → (times_power at f g w).outcome ≡ Ok (whole_fraction r) → IsLowest r
+power_lowest at f g w r some nonzero e =
+    is_lowest r (lowest_terms (fraction_product f (raised_fraction g w)))
+    (sym (same_Ok (lowest_terms (fraction_product f (raised_fraction g w))) (whole_fraction r) e))
+    (lowest_has_terms (fraction_product f (raised_fraction g w))
+    (product_not_zero f.bottom (raised_fraction g w).bottom some (raised_nonzero g w nonzero).bottom))
+
+-- 1 is in lowest terms
+pub one_terms : HasLowestTerms (of_whole (pos 1))
+one_terms = record { positive = omega (arith, ints); coprime = λ d p q. dvd_antisymm q (one-dvd d) }

@@ -1,0 +1,43 @@
+-- The walk over the parts of a product, part by part.
+use Rattle.std.proofs.Common.{◌≡◌, ℕ, ◌+◌, ◌≤◌, ◌<◌, List, length, get_or, drop, ap, sym, ◌∙◌, subst, suc, add-one}
+use Rattle.std.proofs.Math.Seq.{drop-cons}
+use Rattle.std.proofs.lemmas.List.{drop_all}
+use Rattle.std.specs.Prelude.{ℤ, Ok}
+use Rattle.hypergeometric.specs.ProperTerm.{ProperTerm}
+use Rattle.hypergeometric.specs.Tree as d
+use Rattle.hypergeometric.specs.TreeValue.{part_power}
+use Rattle.term_text.specs.View.{tree_of, part_of, parts_of}
+use Rattle.term_text.specs.declared.ast.Part.{Part}
+use Rattle.term_text.proofs.Views.{part_of-at}
+use Rattle.term_classes.specs.Walk.{walk, walk_parts}
+use Rattle.tree_polynomials.specs.Answers.{HasCause}
+use Rattle.tree_polynomials.specs.declared.faults.TermFault.{TermFault}
+use Rattle.tree_polynomials.proofs.AnswerLaws.{first_cause}
+use Rattle.term_walk.proofs.Leads.{Leads, leads}
+
+-- the parts that are left begin with the next part
+pub next_part : (ps : List Part) (i : ℕ) (p : Part) → i < length ps → p ≡ get_or ps i p
+    → parts_of (drop i ps) ≡ d.part p.turned (tree_of p.ast) (parts_of (drop (i + 1) ps))
+next_part ps i p below is =
+    ap parts_of (drop-cons ps i p below)
+    ∙ ap (λ q. d.part (part_of q).0 (part_of q).1 (parts_of (drop (suc i) ps))) (sym is)
+    ∙ ap (λ x. d.part x.0 x.1 (parts_of (drop (suc i) ps))) (part_of-at p)
+    ∙ ap (λ j. d.part p.turned (tree_of p.ast) (parts_of (drop j ps))) (sym (add-one i))
+
+-- a fault in the next part
+pub part_refused : (ps : List Part) (i : ℕ) (p : Part) (w : ℤ) (f : ProperTerm) (x : TermFault) → i < length ps → p ≡ get_or ps i p
+    → HasCause (walk (tree_of p.ast) (part_power p.turned w) f) x → HasCause (walk_parts (parts_of (drop i ps)) w f) x
+part_refused ps i p w f x below is h = subst (λ parts. HasCause (walk_parts parts w f) x) (sym (next_part ps i p below is))
+    (first_cause (walk (tree_of p.ast) (part_power p.turned w) f) (λ g. walk_parts (parts_of (drop (i + 1) ps)) w g) x h)
+
+-- past the next part
+pub part_leads : (ps : List Part) (i : ℕ) (p : Part) (w : ℤ) (f g : ProperTerm) → i < length ps → p ≡ get_or ps i p
+    → (walk (tree_of p.ast) (part_power p.turned w) f).outcome ≡ Ok g
+    → Leads (walk_parts (parts_of (drop i ps)) w f) (walk_parts (parts_of (drop (i + 1) ps)) w g)
+part_leads ps i p w f g below is e =
+    subst (λ parts. Leads (walk_parts parts w f) (walk_parts (parts_of (drop (i + 1) ps)) w g)) (sym (next_part ps i p below is))
+    (leads (walk (tree_of p.ast) (part_power p.turned w) f) (λ g. walk_parts (parts_of (drop (i + 1) ps)) w g) g e)
+
+-- past all parts
+pub parts_walked : (ps : List Part) (i : ℕ) (w : ℤ) (f : ProperTerm) → length ps ≤ i → (walk_parts (parts_of (drop i ps)) w f).outcome ≡ Ok f
+parts_walked ps i w f past = ap (λ qs. (walk_parts (parts_of qs) w f).outcome) (drop_all i ps past)

@@ -1,0 +1,4 @@
+pub mod Views
+pub mod OneProof
+pub mod FormLimits
+pub mod WalkRows

@@ -1,0 +1,8 @@
+-- That a fraction is in lowest terms is proved in one way.
+-- A lemma: it stands here, and not in proofs/, since a ghost field names it.
+use Rattle.std.proofs.Props.{props}
+use Rattle.poly_fraction.specs.Fractions.{RingFraction}
+use Rattle.poly_fraction.specs.LowestTerms.{IsLowest}
+
+pub lowest_once : (f : RingFraction) → IsProp (IsLowest f)
+lowest_once f = Prim.hlevel props

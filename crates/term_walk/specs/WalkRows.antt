@@ -1,0 +1,68 @@
+-- The rows of a walk from some step on, for the calls that take them there, and what an exponent is to a walk.
+use Rattle.std.specs.Prelude.{ℕ, ℤ, ◌*ℤ◌, neg_ℤ, unsigned_abs, Bool, true, false, Option, Some, None, if◌then◌else◌}
+use Rattle.ring_laws.specs.Meaning.{Meaning}
+use Rattle.hypergeometric.specs.LinearForm.{LinearForm}
+use Rattle.hypergeometric.specs.ProperTerm.{ProperTerm}
+use Rattle.hypergeometric.specs.Tree.{Tree, Parts, no_parts, part}
+use Rattle.hypergeometric.specs.TreePolynomial.{constant_of}
+use Rattle.term_classes.specs.Refusals.{exponent_limit}
+use Rattle.term_classes.specs.Steps.{Steps, of_number, gives, makes, within_limit, ◌then◌}
+use Rattle.term_classes.specs.Forms.{is_zero, linear_form_of, form_difference, difference_size, limited_form, limited_exponent}
+use Rattle.term_classes.specs.Sought.{polynomial_sought, constant_sought}
+use Rattle.term_classes.specs.Walk as w
+use Rattle.tree_polynomials.specs.Views.{found}
+use Rattle.term_walk.specs.Views.{wide_form_of}
+use Rattle.term_walk.specs.declared.exponents.Exponent.{Exponent}
+use Rattle.term_walk.specs.declared.exponents.Exponent.TheVariants as code
+
+-- the constant 0; another constant, times the power of the walk; or the linear form that it is, if it is one, where it is no constant
+pub data ExponentKind : Type 0 where
+  zero_exponent : ExponentKind
+  constant : ℤ → ExponentKind
+  varying : Option LinearForm → ExponentKind
+
+abbrev pub exponent_of : Exponent → ExponentKind
+exponent_of code.Zero = zero_exponent
+exponent_of (code.Constant power) = constant power.value
+exponent_of (code.Varying form) = varying (found wide_form_of form)
+
+abbrev pub constant_kind : ℤ → ℤ → ExponentKind
+constant_kind power c = if is_zero c then zero_exponent else constant (power *ℤ c)
+
+-- the limit of a constant exponent counts it times the power of the walk
+abbrev pub exponent_told : ℤ → Option Meaning → Steps ExponentKind
+exponent_told power p = elim (constant_of p) as (λ _. Steps ExponentKind) [
+  | Some c ↦ within_limit exponent_limit 12 (unsigned_abs (power *ℤ c)) (constant_kind power c)
+  | None ↦ gives (varying (linear_form_of p))
+]
+
+abbrev pub exponent_sought : Tree → ℤ → Steps ExponentKind
+exponent_sought t power = polynomial_sought t then (exponent_told power)
+
+-- exactly one part, which is turned
+abbrev pub is_one_turned : Parts → Bool
+is_one_turned (part true t no_parts) = true
+is_one_turned parts = false
+
+-- a power whose exponent is no constant
+abbrev pub exponential_left : ℕ → Tree → Tree → Option LinearForm → ℤ → ProperTerm → Steps ProperTerm
+exponential_left at base e form power f = constant_sought base then (λ b. w.base_or_refused at b then (λ b1.
+    w.form_or_refused 5 e form then (λ l. limited_exponent l then (λ l1. w.times_exponential at b1 l power f))))
+
+abbrev pub power_left : ℕ → Tree → Tree → ℤ → ProperTerm → ExponentKind → Steps ProperTerm
+power_left at base e power f zero_exponent = gives f
+power_left at base e power f (constant c) = w.walk base c f
+power_left at base e power f (varying form) = exponential_left at base e form power f
+
+-- a binomial coefficient, once its two forms are found and are no negative numbers; once their difference is found, and is none either; and
+-- once all three are within the limits
+abbrev pub factorials_left : LinearForm → LinearForm → LinearForm → ℤ → ProperTerm → Steps ProperTerm
+factorials_left l m d power f = w.with_factorial l power f then (λ g. w.with_factorial m (neg_ℤ power) g then (λ h.
+    w.with_factorial d (neg_ℤ power) h))
+
+abbrev pub limits_left : LinearForm → LinearForm → LinearForm → ℤ → ProperTerm → Steps ProperTerm
+limits_left l m d power f = limited_form l then (λ l2. limited_form m then (λ m2. limited_form d then (λ d2. factorials_left l m d power f)))
+
+abbrev pub difference_left : ℕ → LinearForm → LinearForm → ℤ → ProperTerm → Steps ProperTerm
+difference_left at l m power f = makes at (of_number (difference_size l m)) (form_difference l m) then
+    (λ d. w.not_negative at d then (λ d1. limits_left l m d power f))
