@@ -14,7 +14,7 @@ use Rattle.cert_checker.proofs.RightDocuments.{equation_of_identity}
 use Rattle.ekhad_cli.specs.declared.words.Command.TheVariants.{Check}
 use Rattle.ekhad_cli.specs.declared.status.Status.TheVariants.{Found}
 use Rattle.ekhad_cli.specs.declared.refusal.Refusal.{Refusal}
-use Rattle.ekhad_cli.specs.declared.refusal.Refusal.TheVariants.{Usage, EmptyInput, Line, LiteralTooLarge, ClaimTooLarge, Unbuilt, Memory, ReadFault, WriteFault}
+use Rattle.ekhad_cli.specs.declared.refusal.Refusal.TheVariants.{Usage, EmptyInput, Line, LiteralTooLarge, TermTooLarge, ClaimTooLarge, Improper, TermLimit, Unbuilt, Memory, ReadFault, WriteFault}
 use Rattle.ekhad_cli.specs.declared.refusal.Refusal.TheVariants as refusal
 use Rattle.ekhad_cli.specs.Refusals.{IsOutside}
 use Rattle.ekhad_cli.specs.Commands.{most_bytes, IsAnswerText, verdict_text, verdict_status, IsCause, IsAlwaysAccepted}
@@ -39,8 +39,8 @@ right (document, answer, spelled) =
         read = record { readable = answer.readable; spelled = spelled ∙ ap document_text answer.document };
         carrier = refl;
         multiplier = not_nought answer.multiplier found.least.positive;
-        equation = equation_of_identity d found.term.bounded found.bounded found.least.difference;
-        in_bounds = found.in_bounds;
+        equation = equation_of_identity d found.poly_bounded found.bounded found.least.difference;
+        in_bounds = found.in_bounds answer.scale;
       },
     )
 
@@ -71,6 +71,9 @@ outside d r few EmptyInput cause = cause
 outside d r few (refusal.Syntax kind at) cause = cause
 outside d r few (Line at) cause = absurd (cause.2.refused d r.read)
 outside d r few (LiteralTooLarge at) cause = cause
+outside d r few (Improper reason at) cause = cause
+outside d r few (TermLimit name counted) cause = cause
+outside d r few (TermTooLarge at) cause = cause
 outside d r few (ClaimTooLarge claim) (short, is, e, read, carrier, multiplier, large) = absurd (large (same_document d e r read).in_bounds)
 outside d r few (refusal.Limit limit counted) cause = absurd (omega (arith, few, cause.1))
 outside d r few Unbuilt cause = cause

@@ -1,37 +1,34 @@
--- The document of a text from the numbers that the engine found.
-use Rattle.std.proofs.Common.{◌≡◌, ◌≢◌, ℕ, ◌≤◌, List, [], ◌∷◌, length, get_or, refl, ap, sym, ◌∙◌, arith, subst}
+-- The document of a text from the class of its tree and the numbers that the engine found.
+use Rattle.std.proofs.Common.{◌≡◌, ℕ, ◌≤◌, List, [], ◌∷◌, length, refl, ap, sym, ◌∙◌, arith, subst, Ok}
 use Rattle.std.proofs.lemmas.List.{get_or_default}
 use Rattle.std.proofs.lemmas.List.Elements.{All-weaker}
 use Rattle.std.specs.Int.{◌∣◌}
 use Rattle.std.specs.Prelude.{ℤ, pos, ◌+ℤ◌, ◌-ℤ◌, ◌*ℤ◌, unsigned_abs, All}
-use Rattle.ring_laws.specs.Meaning.{Meaning, items}
-use Rattle.ring_laws.specs.Wholes.{whole_algebra, number_of}
-use Rattle.poly_laws.specs.Lists.{coefficient_at}
+use Rattle.ring_laws.specs.Meaning.{Meaning}
 use Rattle.poly_laws.specs.Values.{value_at}
-use Rattle.hypergeometric.specs.TermFacts.{IsPolynomial, IsNumber}
-use lib.IntN.{pow}
-use Rattle.ring_solver.proofs.Read.{ring_z, reading_z}
-use Rattle.hypergeometric.specs.Fraction.{of_whole}
+use Rattle.hypergeometric.specs.Fraction.{Fraction, ◌≈◌, of_whole}
+use Rattle.hypergeometric.specs.ProperTerm.{ProperTerm}
+use Rattle.hypergeometric.specs.PlainTerm.{plain_term}
+use Rattle.hypergeometric.specs.TermFacts.{IsNumber}
 use Rattle.hypergeometric.specs.Tree.{Tree}
 use Rattle.hypergeometric.specs.TreeValue.{term_value}
-use Rattle.document_text.specs.Document.{Document, document_text}
-use Rattle.cert_text.specs.PolynomialDocument.{polynomial_document}
+use Rattle.hypergeometric.proofs.PlainTerms.{plain_value}
+use Rattle.term_classes.specs.ClassValues.{HasValue}
+use Rattle.term_classes.specs.Walk.{class_of}
+use Rattle.document_text.specs.Document.{document_text}
+use Rattle.cert_text.specs.PolynomialDocument.{in_k, polynomial_document}
 use Rattle.cert_text.specs.Readable.{contents}
-use Rattle.cert_checker.specs.Checks.{AreInBounds}
-use Rattle.cert_checker.proofs.RightDocuments.{small_in_bounds}
+use Rattle.cert_text.proofs.LiftedPolynomials.{in_k_value}
 use Rattle.cert_text.proofs.PolynomialClaims.{polynomial_document_well_formed, polynomial_document_telescopes}
+use Rattle.cert_checker.proofs.RightDocuments.{small_in_bounds}
 use Rattle.grammar.specs.Several.{a_term}
 use Rattle.grammar.specs.Reading.{HasTrees}
-use Rattle.ekhad_cli.specs.declared.power_sum.Monomial.{Monomial}
-use Rattle.ekhad_cli.specs.PowerSum.{IsPowerSum, HasValueOf, powers_value}
 use Rattle.ekhad_cli.specs.Antidifference.{value_of, DividesAll, IsLeastAntidifference}
-use Rattle.ekhad_cli.specs.Answer.{scale_of, polynomial_value, coefficient, IsLeast, IsAntidifferenceOf}
+use Rattle.ekhad_cli.specs.FirstRun.{IsSmall, polynomial_of, HasNumbers}
+use Rattle.ekhad_cli.specs.Answer.{coefficient, IsLeast, IsAntidifferenceOf}
 use Rattle.ekhad_cli.specs.Commands.{IsAnswerText}
-use Rattle.ekhad_cli.proofs.Polynomials.{polynomial_of, polynomial_value_of, coefficient_of, polynomial_bounded, polynomial_length, polynomial_within}
-
--- a list with a number other than 0 has a coefficient
-pub some_item : (cs : List ℤ) (i : ℕ) → get_or cs i (pos 0) ≢ pos 0 → items (polynomial_of cs) ≢ []
-some_item cs i h e = h (sym (coefficient_of cs i) ∙ ap (λ xs. number_of (coefficient_at whole_algebra.ops xs i)) e)
+use Rattle.ekhad_cli.proofs.EqualTerms.{telescopes_too}
+use Rattle.ekhad_cli.proofs.Polynomials.{polynomial_value_of, coefficient_of, polynomial_bounded, polynomial_length, polynomial_within}
 
 least_of : (cs ys : List ℤ) (a : ℤ) → IsLeastAntidifference cs a ys → IsLeast (polynomial_of cs) a (polynomial_of ys)
 least_of cs ys a least = record {
@@ -48,71 +45,67 @@ least_of cs ys a least = record {
         subst (λ z. d ∣ unsigned_abs z) (coefficient_of ys i ∙ get_or_default ys i (pos 0) x h) (all i)
 
 -- the engine's numbers, as polynomials
-pub antidifference_of : (ms : List Monomial) (cs ys : List ℤ) (scale a : ℤ) (poly y : Meaning)
+pub antidifference_of : (cs ys : List ℤ) (a : ℤ) (poly y : Meaning)
     → poly ≡ polynomial_of cs → y ≡ polynomial_of ys → length cs ≤ 5 → length ys ≤ 6
-    → All (λ c. unsigned_abs c ≤ 5000000) cs → All (λ c. unsigned_abs c ≤ 1500000000) ys
-    → ((k : ℤ) → value_of cs k ≡ polynomial_value ms k) → scale ≡ scale_of ms → IsLeastAntidifference cs a ys → unsigned_abs a ≤ 60
-    → IsAntidifferenceOf ms poly scale a y
-antidifference_of ms cs ys scale a poly y p q few some small light values is least multiplier = record {
-  term = record {
-    bounded = subst (IsPolynomial 1) (sym p) (polynomial_bounded cs (omega (arith, few)) weaker);
-    values = λ k. ap (value_at (k ∷ [])) p ∙ polynomial_value_of cs k ∙ values k;
-    scale_is = is;
-    degree = omega (arith, ap (λ m. length (items m)) p, polynomial_length cs, few);
-  };
-  bounded = subst (IsPolynomial 1) (sym q) (polynomial_bounded ys (omega (arith, some)) light);
-  least = subst (λ m. IsLeast m a y) (sym p) (subst (λ m. IsLeast (polynomial_of cs) a m) (sym q) (least_of cs ys a least));
-  in_bounds = subst (λ m. AreInBounds (contents m scale a scale y)) (sym p)
-      (subst (λ m. AreInBounds (contents (polynomial_of cs) scale a scale m)) (sym q)
-      (small_in_bounds (contents (polynomial_of cs) scale a scale (polynomial_of ys)) (polynomial_bounded cs (omega (arith, few)) weaker)
-      (polynomial_bounded ys (omega (arith, some)) light) (omega (arith, polynomial_length cs, few)) (polynomial_within cs weaker)
-      (omega (arith, multiplier)) (omega (arith, polynomial_length ys, some)) (polynomial_within ys light)));
-}
+    → All IsSmall cs → All (λ c. unsigned_abs c ≤ 1500000000) ys → IsLeastAntidifference cs a ys → unsigned_abs a ≤ 60
+    → IsAntidifferenceOf poly a y
+antidifference_of cs ys a poly y p q few some small light least multiplier =
+    subst (λ m. IsAntidifferenceOf m a y) (sym p) (subst (λ m. IsAntidifferenceOf (polynomial_of cs) a m) (sym q) record {
+      poly_bounded = polynomial_bounded cs (omega (arith, few)) weaker;
+      degree = omega (arith, polynomial_length cs, few);
+      bounded = polynomial_bounded ys (omega (arith, some)) light;
+      least = least_of cs ys a least;
+      in_bounds = λ scale.
+          small_in_bounds (contents (polynomial_of cs) scale a scale (polynomial_of ys)) (polynomial_bounded cs (omega (arith, few)) weaker)
+          (polynomial_bounded ys (omega (arith, some)) light) (omega (arith, polynomial_length cs, few)) (polynomial_within cs weaker)
+          (omega (arith, multiplier)) (omega (arith, polynomial_length ys, some)) (polynomial_within ys light);
+    })
   where
     weaker : All (λ c. unsigned_abs c ≤ 1500000000) cs
-    weaker = All-weaker (λ c. unsigned_abs c ≤ 5000000) (λ c. unsigned_abs c ≤ 1500000000) (λ c h. omega (arith, h)) cs small
+    weaker = All-weaker IsSmall (λ c. unsigned_abs c ≤ 1500000000) (λ c h. omega (arith, h)) cs small
 
--- the sum of the monomials is the scale times the polynomial of the term
-scaled_value : (ms : List Monomial) (k : ℤ) → powers_value ms k ≡ scale_of ms *ℤ polynomial_value ms k
-scaled_value [] k = refl
-scaled_value (m ∷ []) k = ring_z (m.coefficient ∷ pow k m.power ∷ []) (search reading_z depth 40 fits 20000) refl
-scaled_value (m ∷ n ∷ ms) k = ring_z (powers_value (m ∷ n ∷ ms) k ∷ []) (search reading_z depth 40 fits 20000) refl
+-- a whole number times a polynomial in k has a value everywhere, and so has what has its value
+same_values : (f : ProperTerm) (value : ℤ → ℤ → Fraction) (scale : ℤ) (poly : Meaning) → HasValue f value → f ≡ plain_term scale (in_k poly)
+    → (n k : ℤ) → of_whole (scale *ℤ value_at (k ∷ []) poly) ≈ value n k
+same_values f value scale poly has is n k =
+    let plain : HasValue (plain_term scale (in_k poly)) value = subst (λ t. HasValue t value) is has in
+    subst (λ v. v ≈ value n k) (plain_value scale (in_k poly) n k ∙ ap (λ z. of_whole (scale *ℤ z)) (in_k_value poly n k))
+    (plain.equal n k (record { up = tt; guard = tt; over = tt }))
 
--- what was read and found answers the text
-pub answered : {poly y : Meaning} {scale a carrier : ℤ} (input text : List ℕ) (root : Tree) (ms seen : List Monomial)
-    → HasTrees a_term input (root ∷ []) → IsPowerSum root ms → HasValueOf root ms → seen ≡ ms → IsAntidifferenceOf seen poly scale a y → (scale ≢ pos 0) × (items poly ≢ [])
-    → carrier ≡ scale → IsNumber scale → IsNumber a → text ≡ document_text (polynomial_document poly scale a carrier y) → IsAnswerText input text
-answered {poly} {y} {scale} {a} {carrier} input text root ms seen read power_sum values saw given some same small light printed =
-    let found : IsAntidifferenceOf ms poly scale a y = subst (λ (xs : List Monomial). IsAntidifferenceOf xs poly scale a y) saw given in
-    let d : Document = polynomial_document poly scale a scale y in
-    let whole : (n k : ℤ) → term_value root n k ≡ of_whole (scale *ℤ value_at (k ∷ []) poly) =
-    λ n k. values n k ∙ ap of_whole (scaled_value ms k ∙ ap (λ z. z *ℤ polynomial_value ms k) (sym found.term.scale_is)
-    ∙ ap (λ z. scale *ℤ z) (sym (found.term.values k))) in (
-      d,
-      record {
-        tree = root;
-        read = read;
-        monomials = ms;
-        power_sum = power_sum;
-        poly = poly;
-        y = y;
-        scale = scale;
-        multiplier = a;
-        antidifference = found;
-        document = refl;
-        well_formed = polynomial_document_well_formed poly y scale a scale found.term.bounded some.1 found.bounded small some.0 light small some.0;
-        readable = record {
-          poly = found.term.bounded;
-          not_zero = some.1;
-          degree = found.term.degree;
-          scale = small;
-          scale_not_zero = some.0;
-          multiplier = light;
-          carrier_scale = small;
-          carrier_not_zero = some.0;
-          y = found.bounded;
-        };
-        telescopes = polynomial_document_telescopes (term_value root) poly y scale a whole found.least.difference some.0;
-      },
-      printed ∙ ap (λ z. document_text (polynomial_document poly scale a z y)) same,
-    )
+-- what was read, classified and found answers the text
+pub answered : (input text : List ℕ) (root : Tree) (f : ProperTerm) (cs : List ℤ) (scale a : ℤ) (y : Meaning)
+    → HasTrees a_term input (root ∷ []) → (class_of root).outcome ≡ Ok f → HasValue f (term_value root) → HasNumbers f cs scale
+    → IsAntidifferenceOf (polynomial_of cs) a y → IsNumber scale → IsNumber a
+    → text ≡ document_text (polynomial_document (polynomial_of cs) scale a scale y) → IsAnswerText input text
+answered input text root f cs scale a y read class value numbers found small light printed = (
+  polynomial_document (polynomial_of cs) scale a scale y,
+  record {
+    tree = root;
+    read = read;
+    class = class ∙ ap Ok numbers.term;
+    poly = polynomial_of cs;
+    y = y;
+    scale = scale;
+    multiplier = a;
+    antidifference = found;
+    document = refl;
+    well_formed = polynomial_document_well_formed (polynomial_of cs) y scale a scale found.poly_bounded numbers.some found.bounded small
+        numbers.scale_not_zero light small numbers.scale_not_zero;
+    readable = record {
+      poly = found.poly_bounded;
+      not_zero = numbers.some;
+      degree = found.degree;
+      scale = small;
+      scale_not_zero = numbers.scale_not_zero;
+      multiplier = light;
+      carrier_scale = small;
+      carrier_not_zero = numbers.scale_not_zero;
+      y = found.bounded;
+    };
+    telescopes = telescopes_too (λ n k. of_whole (scale *ℤ value_at (k ∷ []) (polynomial_of cs))) (term_value root)
+        (same_values f (term_value root) scale (polynomial_of cs) value numbers.term) _ _
+        (polynomial_document_telescopes (λ n k. of_whole (scale *ℤ value_at (k ∷ []) (polynomial_of cs))) (polynomial_of cs) y scale a
+        (λ n k. refl) found.least.difference numbers.scale_not_zero);
+  },
+  printed,
+)

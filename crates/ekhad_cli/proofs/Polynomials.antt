@@ -3,7 +3,7 @@ use Rattle.std.proofs.Common.{◌≡◌, ◌≢◌, ℕ, zero, suc, ◌<◌, ◌
 use Rattle.std.proofs.lemmas.List.{length-map}
 use Rattle.std.proofs.lemmas.Bool.{and_from}
 use Rattle.std.specs.Prelude.{ℤ, pos, negsuc, ◌+ℤ◌, ◌*ℤ◌, unsigned_abs, IsTrue, All}
-use Rattle.ring_laws.specs.Meaning.{Meaning, number, listed, items, parted-joined}
+use Rattle.ring_laws.specs.Meaning.{Meaning, number, items, parted-joined}
 use Rattle.ring_laws.specs.Wholes.{whole_algebra, number_of, is_number}
 use Rattle.ring_laws.specs.Answer.{GivesInBounds}
 use Rattle.ring_laws.specs.declared.faults.RingFault.{RingFault}
@@ -17,10 +17,7 @@ use Rattle.cert_checker.proofs.SmallCoefficients.{number_at, AreWithin, trimmed_
 use Rattle.hypergeometric.specs.TermFacts.{IsPolynomial}
 use Rattle.ekhad_cli.specs.Antidifference.{value_of}
 use Rattle.ekhad_cli.specs.Answer.{coefficient}
-
--- the polynomial with these coefficients
-abbrev pub polynomial_of : List ℤ → Meaning
-polynomial_of cs = listed (trimmed whole_algebra.ops (map number cs))
+use Rattle.ekhad_cli.specs.FirstRun.{polynomial_of}
 
 horner_numbers : (k : ℤ) (cs : List ℤ) → horner number_of k (map number cs) ≡ value_of cs k
 horner_numbers k [] = refl

@@ -1,6 +1,7 @@
 -- The commands: their words, what each writes of the bytes that it reads, and why it refuses them.
-use Rattle.std.specs.Prelude.{codes, ◌≡◌, ◌++◌, ◌<◌, ◌≤◌, ℕ, suc, List, [], ◌∷◌, length}
+use Rattle.std.specs.Prelude.{codes, ◌≡◌, ◌++◌, ◌<◌, ◌≤◌, ℕ, suc, List, [], ◌∷◌, length, Ok, Err}
 use Rattle.std.specs.Fmt.{decimal}
+use Rattle.hypergeometric.specs.ProperTerm.{ProperTerm}
 use Rattle.hypergeometric.specs.Tree.{Tree}
 use Rattle.document_text.specs.Document.{Document, document_text}
 use Rattle.cert_text.specs.Readable.{Contents, IsTextOf, IsFirstBadLine, carried}
@@ -11,8 +12,11 @@ use Rattle.cert_checker.specs.declared.verdicts.Reason.{Reason}
 use Rattle.cert_checker.specs.declared.verdicts.Reason.TheVariants.{Shape, Normal, Carrier, Zero, Poles, Equation, Case, Same, Sums}
 use Rattle.grammar.specs.Several.{a_term}
 use Rattle.grammar.specs.Reading.{HasTrees, IsFirstFault, Fault, unexpected_at, unknown_name_at, unclosed_at, empty_input, not_ascii_at, nesting_at, literal_too_large_at}
-use Rattle.ekhad_cli.specs.declared.power_sum.Monomial.{Monomial}
-use Rattle.ekhad_cli.specs.PowerSum.{IsPowerSum}
+use Rattle.term_classes.specs.Refusals as classes
+use Rattle.term_classes.specs.Steps.{IsTooLargeAt}
+use Rattle.term_classes.specs.Walk.{class_of}
+use Rattle.tree_polynomials.specs.Answers.{limit_of}
+use Rattle.ekhad_cli.specs.FirstRun.{IsFirstRunTerm}
 use Rattle.ekhad_cli.specs.Answer.{IsAnswerTo}
 use Rattle.ekhad_cli.specs.Refusals.{IsOutside}
 use Rattle.ekhad_cli.specs.declared.words.Command.{Command}
@@ -24,7 +28,7 @@ use Rattle.ekhad_cli.specs.declared.refusal.RunLimit.TheVariants.{InputBytes, Do
 use Rattle.ekhad_cli.specs.declared.refusal.SyntaxKind.{SyntaxKind}
 use Rattle.ekhad_cli.specs.declared.refusal.SyntaxKind.TheVariants.{Unexpected, UnknownName, Unclosed, NotAscii, Nesting}
 use Rattle.ekhad_cli.specs.declared.refusal.Refusal.{Refusal}
-use Rattle.ekhad_cli.specs.declared.refusal.Refusal.TheVariants.{Usage, EmptyInput, Line, LiteralTooLarge, ClaimTooLarge, Unbuilt, Memory, ReadFault, WriteFault}
+use Rattle.ekhad_cli.specs.declared.refusal.Refusal.TheVariants.{Usage, EmptyInput, Line, LiteralTooLarge, TermTooLarge, ClaimTooLarge, Improper, TermLimit, Unbuilt, Memory, ReadFault, WriteFault}
 use Rattle.ekhad_cli.specs.declared.refusal.Refusal.TheVariants as refusal
 
 -- the words of a command
@@ -86,9 +90,18 @@ fault_of Unclosed at = unclosed_at at
 fault_of NotAscii at = not_ascii_at at
 fault_of Nesting at = nesting_at at
 
--- the text of a term has a tree that is no sum of powers of k
+-- the walk over the tree of the text of a term ends with this refusal
+abbrev pub IsRefusedBy : List ℕ → classes.Refusal → Type 0
+IsRefusedBy text refusal = (tree : Tree) × HasTrees a_term text (tree ∷ []) × ((class_of tree).outcome ≡ Err refusal)
+
+-- an operation of the node at this place isn't in bounds in the walk over the tree of the text
+abbrev pub IsTermTooLarge : List ℕ → ℕ → Type 0
+IsTermTooLarge text at = (tree : Tree) × HasTrees a_term text (tree ∷ []) × IsTooLargeAt (class_of tree) at
+
+-- the class of the tree of the text is none of the terms that are answered today
 abbrev pub IsUnbuilt : List ℕ → Type 0
-IsUnbuilt text = (tree : Tree) × HasTrees a_term text (tree ∷ []) × ((monomials : List Monomial) → ¬ IsPowerSum tree monomials)
+IsUnbuilt text = (tree : Tree) × HasTrees a_term text (tree ∷ [])
+    × ((f : ProperTerm) × ((class_of tree).outcome ≡ Ok f) × (¬ IsFirstRunTerm f))
 
 -- Why a command refuses the bytes that it reads: they are too many, or it read them all. A fault of the outside, or want of memory,
 -- may come whatever they are.
@@ -98,6 +111,9 @@ IsCause command bytes (refusal.Limit limit counted) =
 IsCause Gosper bytes EmptyInput = (length bytes ≤ most_bytes Gosper) × IsFirstFault a_term bytes empty_input
 IsCause Gosper bytes (refusal.Syntax kind at) = (length bytes ≤ most_bytes Gosper) × IsFirstFault a_term bytes (fault_of kind at)
 IsCause Gosper bytes (LiteralTooLarge at) = (length bytes ≤ most_bytes Gosper) × IsFirstFault a_term bytes (literal_too_large_at at)
+IsCause Gosper bytes (Improper reason at) = (length bytes ≤ most_bytes Gosper) × IsRefusedBy bytes (classes.improper reason at)
+IsCause Gosper bytes (TermLimit name counted) = (length bytes ≤ most_bytes Gosper) × IsRefusedBy bytes (classes.limit (limit_of name) counted)
+IsCause Gosper bytes (TermTooLarge at) = (length bytes ≤ most_bytes Gosper) × IsTermTooLarge bytes at
 IsCause Gosper bytes Unbuilt = (length bytes ≤ most_bytes Gosper) × IsUnbuilt bytes
 IsCause Check bytes (Line at) = (length bytes ≤ most_bytes Check) × (line : ℕ) × IsFirstBadLine bytes line × (at ≡ carried line)
 IsCause Check bytes (ClaimTooLarge claim) = (length bytes ≤ most_bytes Check) × (claim ≡ 0)

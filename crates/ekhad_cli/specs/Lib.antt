@@ -1,4 +1,4 @@
-pub mod PowerSum
+pub mod FirstRun
 pub mod Antidifference
 pub mod Answer
 pub mod Commands

@@ -4,6 +4,8 @@ use Rattle.std.specs.Fmt.{decimal}
 use Rattle.std.specs.declared.option.Option.{Option}
 use Rattle.std.specs.Io.KnownBytes.{Appends}
 use Rattle.ek_io.specs.Transfer.{AppendsFront}
+use Rattle.tree_polynomials.specs.declared.faults.LimitName.{LimitName}
+use Rattle.tree_polynomials.specs.declared.faults.LimitName.TheVariants.{Factors, Slope, Offset, Exponent, Order, Degree, MatchShifts, Columns, HyperPairs, BoxSide}
 use Rattle.ekhad_cli.specs.declared.status.Status.{Status}
 use Rattle.ekhad_cli.specs.declared.status.Status.TheVariants as status
 use Rattle.ekhad_cli.specs.declared.refusal.RunLimit.{RunLimit}
@@ -11,7 +13,7 @@ use Rattle.ekhad_cli.specs.declared.refusal.RunLimit.TheVariants.{InputBytes, Do
 use Rattle.ekhad_cli.specs.declared.refusal.SyntaxKind.{SyntaxKind}
 use Rattle.ekhad_cli.specs.declared.refusal.SyntaxKind.TheVariants.{Unexpected, UnknownName, Unclosed, NotAscii, Nesting}
 use Rattle.ekhad_cli.specs.declared.refusal.Refusal.{Refusal}
-use Rattle.ekhad_cli.specs.declared.refusal.Refusal.TheVariants.{Usage, EmptyInput, Line, LiteralTooLarge, ClaimTooLarge, Unbuilt, Memory, ReadFault, WriteFault}
+use Rattle.ekhad_cli.specs.declared.refusal.Refusal.TheVariants.{Usage, EmptyInput, Line, LiteralTooLarge, TermTooLarge, ClaimTooLarge, Improper, TermLimit, Unbuilt, Memory, ReadFault, WriteFault}
 use Rattle.ekhad_cli.specs.declared.refusal.Refusal.TheVariants as refusal
 
 -- the exit status
@@ -33,8 +35,11 @@ status_of EmptyInput = status.Syntax
 status_of (refusal.Syntax kind at) = status.Syntax
 status_of (Line at) = status.Syntax
 status_of (LiteralTooLarge at) = status.TooLarge
+status_of (Improper reason at) = status.Improper
+status_of (TermTooLarge at) = status.TooLarge
 status_of (ClaimTooLarge claim) = status.TooLarge
 status_of (refusal.Limit limit counted) = status.Limit
+status_of (TermLimit name counted) = status.Limit
 status_of Unbuilt = status.Limit
 status_of Memory = status.Memory
 status_of ReadFault = status.ReadFault
@@ -43,6 +48,19 @@ status_of WriteFault = status.WriteFault
 abbrev pub limit_name : RunLimit → List ℕ
 limit_name InputBytes = codes "input bytes"
 limit_name DocumentBytes = codes "document bytes"
+
+-- the name of a limit on terms
+abbrev pub term_limit_name : LimitName → List ℕ
+term_limit_name Factors = codes "factors"
+term_limit_name Slope = codes "slope"
+term_limit_name Offset = codes "offset"
+term_limit_name Exponent = codes "exponent"
+term_limit_name Order = codes "order"
+term_limit_name Degree = codes "degree"
+term_limit_name MatchShifts = codes "match shifts"
+term_limit_name Columns = codes "columns"
+term_limit_name HyperPairs = codes "hyper pairs"
+term_limit_name BoxSide = codes "box"
 
 abbrev pub kind_name : SyntaxKind → List ℕ
 kind_name Unexpected = codes "unexpected"
@@ -58,8 +76,11 @@ line_text EmptyInput = codes "ekhad: syntax: empty input\n"
 line_text (refusal.Syntax kind at) = codes "ekhad: syntax: " ++ kind_name kind ++ codes " at " ++ decimal at ++ codes "\n"
 line_text (Line at) = codes "ekhad: syntax: line " ++ decimal at ++ codes "\n"
 line_text (LiteralTooLarge at) = codes "ekhad: too large: literal at " ++ decimal at ++ codes "\n"
+line_text (Improper reason at) = codes "ekhad: improper: reason " ++ decimal reason ++ codes " at " ++ decimal at ++ codes "\n"
+line_text (TermTooLarge at) = codes "ekhad: too large: term at " ++ decimal at ++ codes "\n"
 line_text (ClaimTooLarge claim) = codes "ekhad: too large: claim " ++ decimal claim ++ codes "\n"
 line_text (refusal.Limit limit counted) = codes "ekhad: limit: " ++ limit_name limit ++ codes " " ++ decimal counted ++ codes "\n"
+line_text (TermLimit name counted) = codes "ekhad: limit: " ++ term_limit_name name ++ codes " " ++ decimal counted ++ codes "\n"
 line_text Unbuilt = codes "ekhad: limit: unbuilt 1\n"
 line_text Memory = codes "ekhad: memory\n"
 line_text ReadFault = codes "ekhad: read fault\n"
@@ -70,7 +91,10 @@ abbrev pub IsFixed : Refusal → Type 0
 IsFixed (refusal.Syntax kind at) = ⊥
 IsFixed (Line at) = ⊥
 IsFixed (LiteralTooLarge at) = ⊥
+IsFixed (Improper reason at) = ⊥
+IsFixed (TermTooLarge at) = ⊥
 IsFixed (ClaimTooLarge claim) = ⊥
+IsFixed (TermLimit name counted) = ⊥
 IsFixed (refusal.Limit limit counted) = ⊥
 IsFixed _ = Unit {0}
 

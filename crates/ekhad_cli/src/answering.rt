@@ -1,21 +1,27 @@
 //! The document of a term, from text to text.
 
-ghost use Rattle.std.specs.Prelude.{◌≡◌, ◌≤◌, ℕ, List, length, IfOk, IfErr};
+ghost use Rattle.std.specs.Prelude.{◌≡◌, ◌≤◌, ℕ, List, [], ◌∷◌, length, IfOk, IfErr};
+ghost use Rattle.hypergeometric.specs.Tree.{Tree};
+ghost use Rattle.grammar.specs.Reading.{HasTrees};
 ghost use Rattle.grammar.specs.Several.{a_term};
 ghost use Rattle.term_text.specs.Answers.{HasFault};
+ghost use Rattle.term_classes.specs.Walk.{class_of};
+ghost use Rattle.tree_polynomials.specs.Answers.{HasCause};
 ghost use Rattle.ekhad_cli.specs.Refusals.{IsInside};
 ghost use Rattle.ekhad_cli.specs.Commands.{most_bytes, IsAnswerText, IsCause};
 
 use crate::gosper::gosper;
 use crate::output::Output;
-use crate::power_sum::monomials_of;
 use crate::refusal::{Refusal, SyntaxKind};
+use crate::small_terms::small_term;
 use crate::status::Status;
 use crate::words::Command;
 use cert_text::print_poly_doc;
 use ring_laws::RingFault;
 use std::alloc::Global;
 use term_text::{TextFault, read_term};
+use term_walk::classify;
+use tree_polynomials::TermFault;
 
 // How a text with this first fault is refused.
 fn refusal_of(fault: TextFault) -> Refusal
@@ -31,6 +37,20 @@ fn refusal_of(fault: TextFault) -> Refusal
         TextFault::Nesting { at } => syntax(SyntaxKind::Nesting, at),
         TextFault::LiteralTooLarge { at } => Refusal::LiteralTooLarge { at },
         TextFault::Memory => Refusal::Memory,
+    }
+}
+
+// How a text is refused whose tree has no class.
+fn refusal_of_class(fault: TermFault) -> Refusal
+    ensures cause { (text : List ℕ) (tree : Tree) → length text ≤ most_bytes Command.Gosper → HasTrees a_term text (tree ∷ [])
+        → HasCause (class_of tree) fault → IsCause Command.Gosper text result }
+    ensures inside { IsInside result }
+{
+    match fault {
+        TermFault::Improper { reason, at } => Refusal::Improper { reason, at },
+        TermFault::Limit { name, counted } => Refusal::TermLimit { name, counted },
+        TermFault::TooLarge { at } => Refusal::TermTooLarge { at },
+        TermFault::Memory => Refusal::Memory,
     }
 }
 
@@ -51,12 +71,14 @@ pub(crate) fn answer_term(alloc: Global, input: &[u8]) -> Result<Output, Refusal
         Ok(ast) => ast,
         Err(fault) => return Err(refusal_of(fault)),
     };
-    let monomials = match monomials_of(alloc, &ast) {
-        Ok(Some(monomials)) => monomials,
-        Ok(None) => return Err(Refusal::Unbuilt),
-        Err(_) => return Err(Refusal::Memory),
+    let class = match classify(alloc, &ast) {
+        Ok(class) => class,
+        Err(fault) => return Err(refusal_of_class(fault)),
     };
-    let doc = match gosper(alloc, &monomials) {
+    let Some(term) = small_term(&class) else {
+        return Err(Refusal::Unbuilt);
+    };
+    let doc = match gosper(alloc, &term) {
         Ok(doc) => doc,
         Err(RingFault::TooLarge) => unreachable!(),
         Err(RingFault::Memory) => return Err(Refusal::Memory),

@@ -1,14 +1,15 @@
 //! Why a run gives no answer, and the line that it then says.
 
-ghost use Rattle.std.specs.Prelude.{◌≡◌, ◌⊎◌, IfOk, IsOk};
+ghost use Rattle.std.specs.Prelude.{◌≡◌, ◌⊎◌, IfOk, IsOk, string_bytes};
 ghost use Rattle.std.specs.Cow.{cow_str_bytes};
 ghost use Rattle.ek_io.specs.Faults.{Rose};
-ghost use Rattle.ekhad_cli.specs.Refusals.{limit_name, kind_name, line_text, status_of, IsFixed, GrewByLine};
+ghost use Rattle.ekhad_cli.specs.Refusals.{limit_name, term_limit_name, kind_name, line_text, status_of, IsFixed, GrewByLine};
 
 use crate::status::Status;
 use ek_io::{Sink, write_all_counted};
 use std::alloc::{AllocError, Global};
 use std::borrow::CowStr;
+use tree_polynomials::LimitName;
 
 /// What is counted, where a limit is passed.
 #[derive(Clone, Copy, Debug, PartialEq, Eq, Drop)]
@@ -47,6 +48,12 @@ pub enum Refusal {
     Line { at: u32 },
     /// The first fault of the text of a term is a number of 2^127 or more.
     LiteralTooLarge { at: u32 },
+    /// The tree of a term, or the part of it at this place, is no proper term, for this reason, from 1 to 7.
+    Improper { reason: u8, at: u32 },
+    /// A limit on terms is passed, with what was counted.
+    TermLimit { name: LimitName, counted: u64 },
+    /// The arithmetic of the node of a term at this place is out of bounds.
+    TermTooLarge { at: u32 },
     /// The arithmetic of the check of a claim, counted from 0, is out of bounds.
     ClaimTooLarge { claim: u32 },
     /// A limit is passed, with what was counted.
@@ -69,8 +76,11 @@ impl Refusal {
         match self {
             Refusal::Usage => Status::Usage,
             Refusal::EmptyInput | Refusal::Syntax { .. } | Refusal::Line { .. } => Status::Syntax,
-            Refusal::LiteralTooLarge { .. } | Refusal::ClaimTooLarge { .. } => Status::TooLarge,
-            Refusal::Limit { .. } | Refusal::Unbuilt => Status::Limit,
+            Refusal::Improper { .. } => Status::Improper,
+            Refusal::LiteralTooLarge { .. }
+            | Refusal::TermTooLarge { .. }
+            | Refusal::ClaimTooLarge { .. } => Status::TooLarge,
+            Refusal::Limit { .. } | Refusal::TermLimit { .. } | Refusal::Unbuilt => Status::Limit,
             Refusal::Memory => Status::Memory,
             Refusal::ReadFault => Status::ReadFault,
             Refusal::WriteFault => Status::WriteFault,
@@ -88,6 +98,24 @@ fn name_of_limit(limit: RunLimit) -> &'static str
     }
 }
 
+// The name of a limit on terms, as it is said.
+fn name_of_term_limit(limit: LimitName) -> &'static str
+    ensures name { result.now ≡ term_limit_name limit }
+{
+    match limit {
+        LimitName::Factors => "factors",
+        LimitName::Slope => "slope",
+        LimitName::Offset => "offset",
+        LimitName::Exponent => "exponent",
+        LimitName::Order => "order",
+        LimitName::Degree => "degree",
+        LimitName::MatchShifts => "match shifts",
+        LimitName::Columns => "columns",
+        LimitName::HyperPairs => "hyper pairs",
+        LimitName::BoxSide => "box",
+    }
+}
+
 // The name of a kind, as it is said.
 fn name_of_kind(kind: SyntaxKind) -> &'static str
     ensures name { result.now ≡ kind_name kind }
@@ -99,6 +127,21 @@ fn name_of_kind(kind: SyntaxKind) -> &'static str
         SyntaxKind::NotAscii => "not ascii",
         SyntaxKind::Nesting => "nesting",
     }
+}
+
+// The line of a term that isn't proper.
+fn improper_line(alloc: Global, reason: u8, at: u32) -> Result<String, AllocError>
+    ensures line { IfOk result (λ line. string_bytes line ≡ line_text (Refusal.Improper reason at)) }
+{
+    format!(in alloc; "ekhad: improper: reason {reason} at {at}\n")
+}
+
+// The line of a term that passes a limit.
+fn term_limit_line(alloc: Global, name: LimitName, counted: u64) -> Result<String, AllocError>
+    ensures line { IfOk result (λ line. string_bytes line ≡ line_text (Refusal.TermLimit name counted)) }
+{
+    let limit = name_of_term_limit(name);
+    format!(in alloc; "ekhad: limit: {limit} {counted}\n")
 }
 
 // The line of a refusal. Only one with a number takes memory.
@@ -117,12 +160,19 @@ fn line_of(alloc: Global, refusal: Refusal) -> Result<CowStr<'static>, AllocErro
         Refusal::LiteralTooLarge { at } => {
             CowStr::Owned(format!(in alloc; "ekhad: too large: literal at {at}\n")?)
         }
+        Refusal::Improper { reason, at } => CowStr::Owned(improper_line(alloc, reason, at)?),
+        Refusal::TermTooLarge { at } => {
+            CowStr::Owned(format!(in alloc; "ekhad: too large: term at {at}\n")?)
+        }
         Refusal::ClaimTooLarge { claim } => {
             CowStr::Owned(format!(in alloc; "ekhad: too large: claim {claim}\n")?)
         }
         Refusal::Limit { limit, counted } => {
             let name = name_of_limit(limit);
             CowStr::Owned(format!(in alloc; "ekhad: limit: {name} {counted}\n")?)
+        }
+        Refusal::TermLimit { name, counted } => {
+            CowStr::Owned(term_limit_line(alloc, name, counted)?)
         }
         Refusal::Unbuilt => CowStr::Borrowed("ekhad: limit: unbuilt 1\n"),
         Refusal::Memory => CowStr::Borrowed("ekhad: memory\n"),

@@ -18,12 +18,14 @@ struct Outside<'a> {
     piece: usize,
     source_fails: &'a [u32],
     out_fails: &'a [u32],
+    err_fails: &'a [u32],
 }
 
 const WHOLE: Outside<'static> = Outside {
     piece: 4_096,
     source_fails: &[],
     out_fails: &[],
+    err_fails: &[],
 };
 
 fn outcome_of(
@@ -45,7 +47,11 @@ fn outcome_of(
         outside.piece,
         Vec::from_slice(alloc, outside.out_fails)?,
     )?;
-    let mut err = MemorySink::new(alloc, outside.piece, Vec::new(alloc))?;
+    let mut err = MemorySink::new(
+        alloc,
+        outside.piece,
+        Vec::from_slice(alloc, outside.err_fails)?,
+    )?;
     let status = run(alloc, &words, &mut input, &mut out, &mut err);
     Ok(Outcome { status, out, err })
 }
@@ -124,6 +130,9 @@ fn documents_of_polynomials(rt: HostRuntime) {
         (" k ^ 2 ", "k^2", "1", "6", "2*k^3-3*k^2+k"),
         ("k+1", "k+1", "1", "2", "k^2+k"),
         ("(k)+1", "k+1", "1", "2", "k^2+k"),
+        ("k+k", "2*k", "1", "1", "k^2-k"),
+        ("2*(k+1)^2", "k^2+2*k+1", "2", "6", "2*k^3+3*k^2+k"),
+        ("n+k-n", "k", "1", "2", "k^2-k"),
         ("5", "1", "5", "1", "k"),
         (
             "-k^4+2*k-7",
@@ -147,7 +156,7 @@ fn documents_of_polynomials(rt: HostRuntime) {
 }
 
 #[test]
-fn other_texts_are_refused(rt: HostRuntime) {
+fn texts_that_are_no_terms_are_refused(rt: HostRuntime) {
     let rows = [
         ("", Status::Syntax, "ekhad: syntax: empty input\n"),
         ("1k", Status::Syntax, "ekhad: syntax: unexpected at 1\n"),
@@ -172,15 +181,49 @@ fn other_texts_are_refused(rt: HostRuntime) {
             Status::TooLarge,
             "ekhad: too large: literal at 0\n",
         ),
-        ("k!", Status::Limit, "ekhad: limit: unbuilt 1\n"),
-        ("k+k", Status::Limit, "ekhad: limit: unbuilt 1\n"),
-        ("0", Status::Limit, "ekhad: limit: unbuilt 1\n"),
     ];
     for (text, status, line) in rows {
         let refused = refuses(&rt, "gosper", text.as_bytes(), status, line, &WHOLE);
         assert!(rt; refused, "{text}");
     }
     assert!(rt; refuses(&rt, "zeil", b"k", Status::Usage, "ekhad: usage\n", &WHOLE));
+}
+
+#[test]
+fn terms_that_are_not_answered(rt: HostRuntime) {
+    let rows = [
+        ("k!", Status::Limit, "ekhad: limit: unbuilt 1\n"),
+        ("k!/k!", Status::Limit, "ekhad: limit: unbuilt 1\n"),
+        ("k*k!", Status::Limit, "ekhad: limit: unbuilt 1\n"),
+        ("2^k", Status::Limit, "ekhad: limit: unbuilt 1\n"),
+        ("k/2", Status::Limit, "ekhad: limit: unbuilt 1\n"),
+        ("k^5", Status::Limit, "ekhad: limit: unbuilt 1\n"),
+        ("n", Status::Limit, "ekhad: limit: unbuilt 1\n"),
+        ("1000000*k", Status::Limit, "ekhad: limit: unbuilt 1\n"),
+        ("1000000+k", Status::Limit, "ekhad: limit: unbuilt 1\n"),
+        ("0", Status::Improper, "ekhad: improper: reason 7 at 0\n"),
+        (
+            "(n*k)!",
+            Status::Improper,
+            "ekhad: improper: reason 1 at 2\n",
+        ),
+        (
+            "(k+1000001)!",
+            Status::Limit,
+            "ekhad: limit: offset 1000001\n",
+        ),
+        ("(9*n)!", Status::Limit, "ekhad: limit: slope 9\n"),
+        ("n^(k^13)", Status::Limit, "ekhad: limit: exponent 13\n"),
+        (
+            "k!^12*n!^12/(k+1)",
+            Status::Limit,
+            "ekhad: limit: factors 25\n",
+        ),
+    ];
+    for (text, status, line) in rows {
+        let refused = refuses(&rt, "gosper", text.as_bytes(), status, line, &WHOLE);
+        assert!(rt; refused, "{text}");
+    }
 }
 
 // Whether `check` answers the document of k^2 so, with these lines for the multiplier, the scale of the carrier and Y.
@@ -251,6 +294,7 @@ fn pieces_of_any_size(rt: HostRuntime) {
             piece,
             source_fails: &[],
             out_fails: &[],
+            err_fails: &[],
         };
         let wanted = document(rt.alloc(), "k^2", ["1", "1"], "6", "2*k^3-3*k^2+k");
         assert!(rt; writes(&rt, b"k^2", wanted, &outside), "{piece}");
@@ -264,6 +308,7 @@ fn a_source_that_fails(rt: HostRuntime) {
             piece,
             source_fails: &[0],
             out_fails: &[],
+            err_fails: &[],
         };
         let line = "ekhad: read fault\n";
         assert!(rt;
@@ -280,6 +325,7 @@ fn an_output_that_fails(rt: HostRuntime) -> Result<(), AllocError> {
             piece,
             source_fails: &[],
             out_fails: &[0],
+            err_fails: &[],
         };
         let line = "ekhad: write fault\n";
         assert!(rt;
@@ -291,10 +337,25 @@ fn an_output_that_fails(rt: HostRuntime) -> Result<(), AllocError> {
         piece: 5,
         source_fails: &[],
         out_fails: &[1],
+        err_fails: &[],
     };
     let front = outcome_of(rt.alloc(), "gosper", b"k^2", &outside)?;
     assert!(rt; front.status == Status::WriteFault);
     assert!(rt; front.out.bytes() == b"ekhad".as_slice());
+    Ok(())
+}
+
+#[test]
+fn an_error_output_that_fails(rt: HostRuntime) -> Result<(), AllocError> {
+    let outside = Outside {
+        piece: 4_096,
+        source_fails: &[],
+        out_fails: &[],
+        err_fails: &[0, 1, 2, 3, 4, 5, 6, 7],
+    };
+    let refused = outcome_of(rt.alloc(), "gosper", b"n^k", &outside)?;
+    assert!(rt; refused.status == Status::Improper);
+    assert!(rt; refused.out.bytes().is_empty() && refused.err.bytes().is_empty());
     Ok(())
 }
 
