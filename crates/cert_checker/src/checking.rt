@@ -7,10 +7,11 @@ ghost use Rattle.cert_checker.specs.Checks.{difference, multiple, HasCarrier, Ha
 ghost use Rattle.cert_checker.specs.Checks.{IsVerdictOf, IsAccepted, HasIdentity, ClaimTelescopes, GivesSides, TestsEquation};
 
 use crate::verdicts::{Reason, Verdict};
-use cert_text::{EngineFault, LimitName, Place, PolyDoc};
+use cert_text::{EngineFault, Place, PolyDoc};
 use poly_generic::Zn;
 use ring_laws::{Ring, RingFault};
 use std::alloc::Global;
+use term_faults::LimitName;
 
 /// Whether the claim of a document holds: the scales of the term and the carrier are equal, the multiplier isn't 0, and the
 /// difference of Y is the multiplier times the polynomial of the term. The first test that fails is named.

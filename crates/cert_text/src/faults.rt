@@ -1,5 +1,6 @@
 //! Why a document isn't read, and why an engine or the checker gives no answer.
 
+use term_faults::LimitName;
 use thiserror::Error;
 
 /// Why no document was read from a text.
@@ -12,31 +13,6 @@ pub enum DocFault {
     /// There is no memory for the document or for a step to it. This may come in place of any other answer.
     #[error("no memory")]
     Memory,
-}
-
-/// A count that has a limit.
-#[derive(Clone, Copy, Debug, PartialEq, Eq, Drop)]
-pub enum LimitName {
-    /// The factors of a term.
-    Factors,
-    /// The slopes of a form.
-    Slope,
-    /// The offset of a form.
-    Offset,
-    /// An exponent of a term.
-    Exponent,
-    /// The order of a recurrence.
-    Order,
-    /// The degree of a polynomial.
-    Degree,
-    /// The shifts at which forms match.
-    MatchShifts,
-    /// The columns of a system of equations.
-    Columns,
-    /// The pairs of forms that are tried.
-    HyperPairs,
-    /// The length of a side of a box.
-    BoxSide,
 }
 
 /// Where the arithmetic went out of bounds.

@@ -18,7 +18,7 @@ mod printing;
 mod reading;
 
 pub use documents::PolyDoc;
-pub use faults::{DocFault, EngineFault, LimitName, Place};
+pub use faults::{DocFault, EngineFault, Place};
 pub use laws::text_determines_contents;
 pub use printing::print_poly_doc;
 pub use reading::read_poly_doc;

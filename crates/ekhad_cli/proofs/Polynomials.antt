@@ -1,5 +1,5 @@
 -- Lists of numbers as polynomials: their values, their coefficients and their bounds.
-use Rattle.std.proofs.Common.{◌≡◌, ◌≢◌, ℕ, zero, suc, ◌<◌, ◌≤◌, ◌^◌, List, [], ◌∷◌, length, get_or, map, refl, ap, sym, ◌∙◌, arith, Result, Ok, Err}
+use Rattle.std.proofs.Common.{◌≡◌, ◌≢◌, ℕ, zero, suc, ◌<◌, ◌≤◌, ◌^◌, List, [], ◌∷◌, length, get_or, map, refl, ap, ◌∙◌, arith, Result, Ok, Err}
 use Rattle.std.proofs.lemmas.List.{length-map}
 use Rattle.std.proofs.lemmas.Bool.{and_from}
 use Rattle.std.specs.Prelude.{ℤ, pos, negsuc, ◌+ℤ◌, ◌*ℤ◌, unsigned_abs, IsTrue, All}
@@ -73,10 +73,6 @@ polynomial_bounded cs short small = record {
   where
     below : (z : ℤ) → unsigned_abs z ≤ 1500000000 → unsigned_abs z < 2 ^ 127
     below z h = omega (arith, h)
-
--- a polynomial without coefficients is 0 everywhere
-pub some_coefficient : (cs : List ℤ) (k : ℤ) → value_of cs k ≢ pos 0 → items (polynomial_of cs) ≢ []
-some_coefficient cs k h e = h (sym (polynomial_value_of cs k) ∙ ap (horner number_of k) e)
 
 -- an answer that is too large only outside the bounds isn't so within them
 pub never_too_large : {T : Type 0} (meaning : T → Meaning) (InBounds : Type 0) (m : Meaning) (r : Result T RingFault)

@@ -1,5 +1,5 @@
 -- Small signed numbers of 64 bits: what the code computes is what the numbers give.
-use Rattle.std.proofs.Common.{◌≡◌, ◌*◌, ℕ, ◌+◌, ◌<◌, ◌≤◌, ◌^◌, ap, ◌∙◌, arith, w32, w64, to_z, of_z, FitsSigned}
+use Rattle.std.proofs.Common.{◌≡◌, ◌*◌, ℕ, ◌+◌, ◌<◌, ◌≤◌, ap, ◌∙◌, arith, w64, to_z, of_z, FitsSigned}
 use Rattle.std.proofs.lemmas.Int.{ints, to_z-of_z, fits_signed_from_abs, unsigned_abs-mul}
 use Rattle.std.specs.Prelude.{ℤ, ◌+ℤ◌, ◌*ℤ◌, unsigned_abs}
 
@@ -39,20 +39,3 @@ module _
 
     pub sum_held_small : unsigned_abs (to_z w64 (of_z w64 (s +ℤ added))) ≤ 300000000 * (i + 1)
     sum_held_small = rw sum_held sum_small
-
--- a coefficient of i monomials and that of one more: what is computed is their sum, and it is small
-pub held_sum : (x y v : ℤ) (i : ℕ) → i < 5 → unsigned_abs x ≤ 1000000 * i → unsigned_abs v < 10 ^ 6 → y ≡ v
-    → (to_z w64 (of_z w64 (to_z w64 (of_z w64 x) +ℤ to_z w64 (of_z w64 y))) ≡ x +ℤ v)
-    × (unsigned_abs (to_z w64 (of_z w64 (to_z w64 (of_z w64 x) +ℤ to_z w64 (of_z w64 y)))) ≤ 1000000 * (i + 1))
-held_sum x y v i few small light e =
-    let sum : unsigned_abs (x +ℤ v) ≤ 1000000 * (i + 1) = omega (arith, ints, small, light) in
-    let whole : to_z w64 (of_z w64 (to_z w64 (of_z w64 x) +ℤ to_z w64 (of_z w64 y))) ≡ x +ℤ v =
-    ap (λ z. to_z w64 (of_z w64 (z +ℤ to_z w64 (of_z w64 y)))) (held x (omega (arith, small, few)))
-    ∙ ap (λ z. to_z w64 (of_z w64 (x +ℤ to_z w64 (of_z w64 z)))) e
-    ∙ ap (λ z. to_z w64 (of_z w64 (x +ℤ z))) (held v (omega (arith, light)))
-    ∙ held (x +ℤ v) (omega (arith, sum, few)) in
-    (whole, rw whole sum)
-
--- a coefficient is read back as it was written
-pub held_coefficient : (z : ℤ) → unsigned_abs z < 10 ^ 6 → to_z w32 (of_z w32 z) ≡ z
-held_coefficient z h = to_z-of_z w32 z (fits_signed_from_abs w32 z (omega (arith, h)))

@@ -19,9 +19,9 @@ use crate::words::Command;
 use cert_text::print_poly_doc;
 use ring_laws::RingFault;
 use std::alloc::Global;
+use term_faults::TermFault;
 use term_text::{TextFault, read_term};
 use term_walk::classify;
-use tree_polynomials::TermFault;
 
 // How a text with this first fault is refused.
 fn refusal_of(fault: TextFault) -> Refusal

@@ -3,7 +3,7 @@
 //! Input: the words after the program's name, a source, two sinks. Output: a `Status`, by `run`.
 //! What an answer is stands in `specs/Answer.antt`, what each command writes and why it refuses in `specs/Commands.antt`, the lines of
 //! the refusals in `specs/Refusals.antt`, what a run claims of its outputs in `specs/Run.antt`.
-//! Read `words.rt` (the commands), `status.rt` and `refusal.rt` (how a run ends, and what it then says), `small_terms.rt`
+//! Read `words.rt` (the commands), `status.rt`, `refusal.rt` and `lines.rt` (how a run ends, and what it then says), `small_terms.rt`
 //! (the terms that are answered), `antidifference.rt` (the numbers of the claim), `gosper.rt` (its document), `answering.rt` (from a text to the
 //! text of its document), `checking.rt` (the verdict on a document), `program.rt`; `laws.rt` has what is so of the commands together.
 #![tactic(auto)]
@@ -13,17 +13,23 @@ mod antidifference;
 mod checking;
 mod gosper;
 mod laws;
+mod lines;
 mod output;
+#[cfg(test)]
+mod outside_tests;
 mod program;
 mod refusal;
 mod small_terms;
 mod status;
 #[cfg(test)]
+mod test_runs;
+#[cfg(test)]
 mod tests;
 mod words;
 
 pub use laws::answers_are_accepted;
+pub use lines::refuse;
 pub use program::run;
-pub use refusal::{Refusal, RunLimit, SyntaxKind, refuse};
+pub use refusal::{Refusal, RunLimit, SyntaxKind};
 pub use status::Status;
 pub use words::Command;

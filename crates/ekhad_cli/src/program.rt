@@ -10,8 +10,9 @@ ghost use Rattle.ekhad_cli.specs.Run.{IsAnswered, GrewByOutput, GrewByFront, IsC
 
 use crate::answering::answer_term;
 use crate::checking::check;
+use crate::lines::refuse;
 use crate::output::Output;
-use crate::refusal::{Refusal, RunLimit, refuse};
+use crate::refusal::{Refusal, RunLimit};
 use crate::status::Status;
 use crate::words::{Command, command_of};
 use ek_io::{ReadEnd, Sink, Source, read_all, write_all_counted};

@@ -10,12 +10,12 @@ use Rattle.term_text.specs.declared.ast.Node.TheVariants.{Pow, Factorial, Binomi
 use Rattle.term_text.proofs.Views.{node_of-pow, node_of-factorial, node_of-binomial}
 use Rattle.term_classes.specs.Walk.{times_binomial, walk}
 use Rattle.tree_polynomials.specs.Answers.{Answers, HasCause}
-use Rattle.tree_polynomials.specs.declared.faults.TermFault.{TermFault}
+use Rattle.term_faults.specs.declared.faults.TermFault.{TermFault}
 use Rattle.tree_polynomials.proofs.AnswerLaws.{first_cause}
 use Rattle.term_walk.specs.declared.gathered.Gathered.{Gathered}
 use Rattle.term_walk.specs.Views.{gathered_of}
 use Rattle.term_walk.specs.WalkRows.{ExponentKind, exponent_sought, exponential_left, power_left}
-use Rattle.term_walk.proofs.Leads.{leads, leads_answer}
+use Rattle.tree_polynomials.proofs.Leading.{leads, leads_answer}
 use Rattle.term_walk.proofs.NodeRows.{at_node}
 use Rattle.term_walk.proofs.ExponentKinds.{power_row}
 

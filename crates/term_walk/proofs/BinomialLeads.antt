@@ -11,7 +11,8 @@ use Rattle.term_classes.specs.Steps.{Steps, of_number, makes, ◌then◌}
 use Rattle.term_classes.specs.Forms.{form_difference, difference_size, limited_form}
 use Rattle.term_classes.specs.Walk.{place_of, argument_sought, not_negative, with_factorial, times_binomial}
 use Rattle.term_walk.specs.WalkRows.{factorials_left, limits_left, difference_left}
-use Rattle.term_walk.proofs.Leads.{Leads, leads, leads_on}
+use Rattle.tree_polynomials.specs.Leads.{Leads}
+use Rattle.tree_polynomials.proofs.Leading.{leads, leads_on}
 use Rattle.term_walk.proofs.RowLeads.{limited_leads}
 
 -- the steps from the test of the second form on, and from that of the first on

@@ -17,7 +17,7 @@ use Rattle.term_classes.proofs.PlainClasses.{cancelled_plain, gathered_keeps, un
 use Rattle.term_classes.proofs.StepLaws.{same_Ok}
 use Rattle.term_classes.proofs.WalkValues.{minus_one_not_zero}
 use Rattle.tree_polynomials.specs.Answers.{HasCause, Answers}
-use Rattle.tree_polynomials.specs.declared.faults.TermFault.{TermFault}
+use Rattle.term_faults.specs.declared.faults.TermFault.{TermFault}
 use Rattle.tree_polynomials.proofs.AnswerLaws.{first_cause, later_cause, later_answer}
 
 -- the walk begins with 1

@@ -13,7 +13,7 @@ use Rattle.term_classes.specs.Refusals.{order_limit}
 use Rattle.term_classes.specs.Steps.{Steps, gives, within_limit, ◌then◌}
 use Rattle.term_classes.proofs.StepLaws.{limit_kept}
 use Rattle.tree_polynomials.specs.Answers.{HasCause}
-use Rattle.tree_polynomials.specs.declared.faults.TermFault.{TermFault}
+use Rattle.term_faults.specs.declared.faults.TermFault.{TermFault}
 use Rattle.tree_polynomials.proofs.AnswerLaws.{first_cause, later_cause, later_outcome}
 use Rattle.std.proofs.lemmas.List.{length-map}
 use Rattle.term_walk.proofs.RecurrenceLaws.{polynomial_in_n}

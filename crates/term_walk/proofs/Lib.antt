@@ -1,5 +1,4 @@
-pub mod PassedFaults
-pub mod FactorCounts
+pub mod FactorialSides
 pub mod ScaleSigns
 pub mod PolynomialPowers
 pub mod ScaleSteps
@@ -20,7 +19,6 @@ pub mod BinomialLeads
 pub mod CappedCounts
 pub mod ExponentKinds
 pub mod HeldNumbers
-pub mod Leads
 pub mod LimitedForms
 pub mod NodeRows
 pub mod RowLeads

@@ -13,7 +13,7 @@ use Rattle.term_classes.specs.Steps.{Steps, ◌then◌}
 use Rattle.term_classes.specs.Sought.{polynomial_sought}
 use Rattle.term_classes.specs.Walk.{place_of, times_sought, walk, walk_node, walk_parts}
 use Rattle.tree_polynomials.specs.Answers.{Answers}
-use Rattle.tree_polynomials.specs.declared.faults.TermFault.{TermFault}
+use Rattle.term_faults.specs.declared.faults.TermFault.{TermFault}
 use Rattle.term_walk.specs.declared.gathered.Gathered.{Gathered}
 use Rattle.term_walk.specs.Views.{gathered_of}
 use Rattle.term_walk.specs.WalkRows.{is_one_turned}

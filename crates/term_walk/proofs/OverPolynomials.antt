@@ -1,6 +1,6 @@
 -- What was gathered over a power of a polynomial that is no number: it is a linear form, or it is refused.
 use Rattle.std.proofs.Common.{◌≡◌, ◌≢◌, ℕ, zero, suc, ◌≤◌, Some, None, ap, sym, ◌∙◌, subst, arith, Result}
-use Rattle.std.specs.Prelude.{ℤ, pos, neg_ℤ, unsigned_abs, Ok, Err}
+use Rattle.std.specs.Prelude.{pos, neg_ℤ, unsigned_abs, Ok, Err}
 use Rattle.ring_laws.specs.Meaning.{Meaning}
 use Rattle.hypergeometric.specs.LinearForm.{LinearForm}
 use Rattle.hypergeometric.specs.ProperTerm.{ProperTerm}
@@ -12,9 +12,9 @@ use Rattle.term_classes.specs.Forms.{linear_form_of, limited_form}
 use Rattle.term_classes.specs.Walk.{with_denominator, times_polynomial}
 use Rattle.term_classes.proofs.StepLaws.{then_gave, limit_gave}
 use Rattle.term_classes.proofs.VaryingForms.{IsVarying, varying_not_zero}
-use Rattle.tree_polynomials.specs.Answers.{HasCause, Answers}
-use Rattle.tree_polynomials.specs.declared.faults.TermFault.{TermFault}
-use Rattle.tree_polynomials.proofs.AnswerLaws.{first_cause, later_answer}
+use Rattle.tree_polynomials.specs.Answers.{Answers}
+use Rattle.term_faults.specs.declared.faults.TermFault.{TermFault}
+use Rattle.tree_polynomials.proofs.AnswerLaws.{later_answer}
 
 -- a form within the limits is given as it is
 pub limited_same : (l l' : LinearForm) → (limited_form l).outcome ≡ Ok l' → l ≡ l'
@@ -49,13 +49,7 @@ module _ (at : ℕ) (p : Meaning) (f : ProperTerm) where
     | Some l ↦ limited_form l then (λ l1. with_denominator at l (suc w) f)
   ]) e
 
-  -- a form that passes a limit
-  pub linear_fault : (w : ℕ) (l : LinearForm) (x : TermFault) → 1 ≤ w → linear_form_of (Some p) ≡ Some l → HasCause (limited_form l) x
-      → HasCause (times_polynomial at p (neg_ℤ (pos w)) f) x
-  linear_fault w l x some e h =
-      subst (λ s. HasCause s x) (sym (linear w l some e)) (first_cause (limited_form l) (λ l1. with_denominator at l w f) x h)
-
-  -- and one that is within them
+  -- a form that is within the limits
   pub linear_answer : {T : Type 0} (view : T → ProperTerm) (result : Result T TermFault) (w : ℕ) (l l' : LinearForm) → 1 ≤ w
       → linear_form_of (Some p) ≡ Some l → (limited_form l).outcome ≡ Ok l' → Answers view (with_denominator at l' w f) result
       → Answers view (times_polynomial at p (neg_ℤ (pos w)) f) result

@@ -15,7 +15,8 @@ use Rattle.term_classes.specs.Steps.{of_polynomial}
 use Rattle.term_classes.specs.Walk.{with_poly, times_polynomial}
 use Rattle.term_classes.proofs.PassingPolynomials.{Belongs, power_belongs, product_not_nought, power_not_nought}
 use Rattle.term_classes.proofs.VaryingForms.{IsVarying, varying_not_nought}
-use Rattle.tree_polynomials.specs.Answers.{HasCause, fault_of}
+use Rattle.term_faults.specs.Faults.{fault_of}
+use Rattle.tree_polynomials.specs.Answers.{HasCause}
 use Rattle.tree_polynomials.proofs.AnswerLaws.{ring_cause, made_too_large}
 
 -- a power in the polynomials is the power of a polynomial

@@ -13,7 +13,7 @@ use Rattle.term_classes.specs.Refusals.{improper}
 use Rattle.term_classes.specs.Sought.{polynomial_sought}
 use Rattle.term_classes.specs.Steps.{Steps, gives, refuses, ◌then◌}
 use Rattle.tree_polynomials.specs.Answers.{HasCause}
-use Rattle.tree_polynomials.specs.declared.faults.TermFault.{TermFault}
+use Rattle.term_faults.specs.declared.faults.TermFault.{TermFault}
 use Rattle.tree_polynomials.proofs.AnswerLaws.{first_cause, later_cause, later_outcome}
 
 -- what is done by the place of a k
@@ -39,9 +39,6 @@ pub record LeadsOn (trees : List Ast) (i : ℕ) (found : List (Poly Whole ghosts
       → (coefficients_sought (map tree_of trees)).outcome ≡ Ok (map polynomial_in_n found ++ more)
   pub faults : (fault : TermFault) → HasCause (coefficients_sought (map tree_of (drop i trees))) fault
       → HasCause (coefficients_sought (map tree_of trees)) fault
-
-pub leads_first : (trees : List Ast) → LeadsOn trees 0 []
-leads_first trees = record { as_many = refl; gives = λ more e. e; faults = λ fault h. h }
 
 -- the trees from a place on are the tree there and those after it
 from_place : (trees : List Ast) (i : ℕ) (t : Ast) → i < length trees → t ≡ get_or trees i t → drop i trees ≡ t ∷ drop (i + 1) trees

@@ -12,10 +12,11 @@ use Rattle.term_classes.specs.Forms.{limited_form, limited_exponent}
 use Rattle.term_classes.specs.Sought.{polynomial_sought, constant_sought}
 use Rattle.term_classes.specs.Walk.{place_of, argument_sought, not_negative, base_or_refused, form_or_refused, with_factorial, times_exponential, times_sought}
 use Rattle.tree_polynomials.specs.Answers.{HasCause}
-use Rattle.tree_polynomials.specs.declared.faults.TermFault.{TermFault}
+use Rattle.term_faults.specs.declared.faults.TermFault.{TermFault}
 use Rattle.tree_polynomials.proofs.AnswerLaws.{first_cause, later_cause}
 use Rattle.term_walk.specs.WalkRows.{exponential_left}
-use Rattle.term_walk.proofs.Leads.{Leads, leads, leads_on}
+use Rattle.tree_polynomials.specs.Leads.{Leads}
+use Rattle.tree_polynomials.proofs.Leading.{leads, leads_on}
 use Rattle.term_walk.proofs.LimitedForms.{form_given}
 
 -- a polynomial, at the place of its tree

@@ -12,7 +12,7 @@ use Rattle.term_classes.specs.Steps.{Steps, gives, refuses, ◌then◌}
 use Rattle.term_classes.specs.Forms.{is_zero, content_of_form, primitive_form}
 use Rattle.term_classes.specs.Walk.{with_scale, with_n_base, with_k_base, with_lists, times_power, few_factors, with_denominator, times_number, times_exponential}
 use Rattle.tree_polynomials.specs.Answers.{HasCause}
-use Rattle.tree_polynomials.specs.declared.faults.TermFault.{TermFault}
+use Rattle.term_faults.specs.declared.faults.TermFault.{TermFault}
 use Rattle.tree_polynomials.proofs.AnswerLaws.{first_cause, later_cause, later_outcome}
 
 -- a number other than 0 isn't refused

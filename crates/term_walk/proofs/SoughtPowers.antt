@@ -8,7 +8,7 @@ use Rattle.term_classes.specs.Steps.{Steps}
 use Rattle.term_classes.specs.Walk.{times_number, times_polynomial, times_sought}
 use Rattle.tree_polynomials.specs.Answers.{Answers}
 use Rattle.tree_polynomials.specs.Views.{found}
-use Rattle.tree_polynomials.specs.declared.faults.TermFault.{TermFault}
+use Rattle.term_faults.specs.declared.faults.TermFault.{TermFault}
 
 module _ {T R : Type 0} (meaning : T → Meaning) (view : R → ProperTerm) (result : Result R TermFault) (at : ℕ) (w : ℤ) (f : ProperTerm)
     (o : Option T) (t : T) (some : o ≡ Some t) where

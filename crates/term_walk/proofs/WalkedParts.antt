@@ -1,28 +1,18 @@
 -- The walk over the parts of a product, part by part.
-use Rattle.std.proofs.Common.{◌≡◌, ℕ, ◌+◌, ◌≤◌, ◌<◌, List, length, get_or, drop, ap, sym, ◌∙◌, subst, suc, add-one}
-use Rattle.std.proofs.Math.Seq.{drop-cons}
+use Rattle.std.proofs.Common.{◌≡◌, ℕ, ◌+◌, ◌≤◌, ◌<◌, List, length, get_or, drop, ap, sym, subst}
 use Rattle.std.proofs.lemmas.List.{drop_all}
 use Rattle.std.specs.Prelude.{ℤ, Ok}
 use Rattle.hypergeometric.specs.ProperTerm.{ProperTerm}
-use Rattle.hypergeometric.specs.Tree as d
 use Rattle.hypergeometric.specs.TreeValue.{part_power}
-use Rattle.term_text.specs.View.{tree_of, part_of, parts_of}
+use Rattle.term_text.specs.View.{tree_of, parts_of}
 use Rattle.term_text.specs.declared.ast.Part.{Part}
-use Rattle.term_text.proofs.Views.{part_of-at}
 use Rattle.term_classes.specs.Walk.{walk, walk_parts}
 use Rattle.tree_polynomials.specs.Answers.{HasCause}
-use Rattle.tree_polynomials.specs.declared.faults.TermFault.{TermFault}
+use Rattle.term_faults.specs.declared.faults.TermFault.{TermFault}
 use Rattle.tree_polynomials.proofs.AnswerLaws.{first_cause}
-use Rattle.term_walk.proofs.Leads.{Leads, leads}
-
--- the parts that are left begin with the next part
-pub next_part : (ps : List Part) (i : ℕ) (p : Part) → i < length ps → p ≡ get_or ps i p
-    → parts_of (drop i ps) ≡ d.part p.turned (tree_of p.ast) (parts_of (drop (i + 1) ps))
-next_part ps i p below is =
-    ap parts_of (drop-cons ps i p below)
-    ∙ ap (λ q. d.part (part_of q).0 (part_of q).1 (parts_of (drop (suc i) ps))) (sym is)
-    ∙ ap (λ x. d.part x.0 x.1 (parts_of (drop (suc i) ps))) (part_of-at p)
-    ∙ ap (λ j. d.part p.turned (tree_of p.ast) (parts_of (drop j ps))) (sym (add-one i))
+use Rattle.tree_polynomials.proofs.NextParts.{next_part}
+use Rattle.tree_polynomials.specs.Leads.{Leads}
+use Rattle.tree_polynomials.proofs.Leading.{leads}
 
 -- a fault in the next part
 pub part_refused : (ps : List Part) (i : ℕ) (p : Part) (w : ℤ) (f : ProperTerm) (x : TermFault) → i < length ps → p ≡ get_or ps i p

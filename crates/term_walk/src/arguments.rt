@@ -9,8 +9,9 @@ ghost use Rattle.term_walk.specs.Views.{wide_form_of};
 
 use crate::wide_forms::{WideForm, is_negative_number, linear_form};
 use std::alloc::Global;
+use term_faults::TermFault;
 use term_text::Ast;
-use tree_polynomials::{TermFault, polynomial_of_tree};
+use tree_polynomials::polynomial_of_tree;
 
 // The linear form that the tree of an argument is.
 pub(crate) fn argument_of_tree(alloc: Global, tree: &Ast) -> Result<WideForm, TermFault>

@@ -20,8 +20,8 @@ use crate::gathered_polynomials::nothing_gathered;
 use crate::walk::walk_tree;
 use proper_term::Proper;
 use std::alloc::Global;
+use term_faults::TermFault;
 use term_text::Ast;
-use tree_polynomials::TermFault;
 
 // What was gathered, with the factorials that stand above and below cancelled, and guarded.
 fn cancelled_term(alloc: Global, gathered: Gathered) -> Result<Proper, TermFault>

@@ -14,13 +14,14 @@ ghost use Rattle.term_walk.specs.WalkRows.{constant_kind, exponent_of, exponent_
 use crate::arguments::form_of_tree;
 use crate::gathered::Gathered;
 use crate::powers::WalkPower;
-use crate::wide_forms::{WideForm, capped_magnitude, exponent_within_limits, linear_form};
+use crate::wide_forms::{WideForm, exponent_within_limits, linear_form};
 use poly_fraction::Frac;
 use poly_generic::Znk;
 use ring_laws::{Ring, Whole};
 use std::alloc::Global;
+use term_faults::{LimitName, TermFault};
 use term_text::Ast;
-use tree_polynomials::{LimitName, TermFault, constant_of, constant_of_tree, polynomial_of_tree};
+use tree_polynomials::{capped_magnitude, constant_of, constant_of_tree, polynomial_of_tree};
 
 // What an exponent is to a walk.
 #[derive(Clone, Copy, Drop)]

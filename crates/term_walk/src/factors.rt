@@ -1,6 +1,6 @@
 //! The factorials and denominators that a walk over a tree has gathered.
 
-ghost use Rattle.std.specs.Prelude.{◌≡◌, ◌+◌, ◌≤◌, ◌<◌, pos, [], IfOk, IfErr, MatchResult};
+ghost use Rattle.std.specs.Prelude.{◌≡◌, ◌+◌, ◌≤◌, pos, [], IfOk, IfErr};
 ghost use Rattle.hypergeometric.specs.TermFacts.{total_power};
 ghost use Rattle.lin_form.specs.Forms.{form_of};
 ghost use Rattle.lin_form.specs.FactorLists.{with_factor};
@@ -8,7 +8,7 @@ ghost use Rattle.lin_form.specs.ListOf.{list_of};
 
 use lin_form::{FactorList, LinForm};
 use std::alloc::Global;
-use tree_polynomials::{LimitName, TermFault};
+use term_faults::{LimitName, TermFault};
 
 /// Forms whose factorials stand above and below, and forms that the rest is divided by: at most 24 by their powers.
 ///
@@ -54,23 +54,10 @@ fn multiplied(list: FactorList, form: LinForm, power: u32) -> Result<FactorList,
     }
 }
 
-// The count of all factors by their powers, where it is within the limit.
-fn within_limit(count: u32) -> Result<u32, TermFault>
-    ensures few { MatchResult result (λ same. (same ≡ count) × (count ≤ 24))
-        (λ fault. (24 < count) × (fault ≡ TermFault.Limit LimitName.Factors count)) }
-{
-    if count > 24 {
-        return Err(TermFault::Limit {
-            name: LimitName::Factors,
-            counted: u64::from(count),
-        });
-    }
-    Ok(count)
-}
-
 impl Factors {
-    ghost use Rattle.std.specs.Prelude.{◌≡◌, ◌≢◌, ◌≤◌, pos, [], unsigned_abs};
+    ghost use Rattle.std.specs.Prelude.{◌≡◌, ◌≢◌, ◌≤◌, ◌+◌, pos, [], unsigned_abs};
     ghost use Rattle.hypergeometric.specs.ProperTerm.{ProperTerm};
+    ghost use Rattle.hypergeometric.specs.TermFacts.{total_power};
     ghost use Rattle.lin_form.specs.Forms.{form_of};
     ghost use Rattle.lin_form.specs.FactorLists.{with_factor};
     ghost use Rattle.lin_form.specs.ListOf.{list_of};
@@ -94,6 +81,34 @@ impl Factors {
         })
     }
 
+    // The lists, where their factors are within the limit.
+    fn within_limit(
+        up: FactorList,
+        down: FactorList,
+        over: FactorList,
+        count: u32,
+    ) -> Result<Factors, TermFault>
+        requires up_scale { (list_of up).scale ≡ pos 1 }
+        requires down_scale { (list_of down).scale ≡ pos 1 }
+        requires over_scale { (list_of over).scale ≡ pos 1 }
+        requires counted { count ≡ total_power (list_of up).factors + total_power (list_of down).factors + total_power (list_of over).factors }
+        ensures answers { (f : ProperTerm) → Answers (with_factors f) (few_factors (with_lists
+            (list_of up).factors (list_of down).factors (list_of over).factors f.guard f)) result }
+    {
+        if count > 24 {
+            return Err(TermFault::Limit {
+                name: LimitName::Factors,
+                counted: u64::from(count),
+            });
+        }
+        Ok(Factors {
+            up,
+            down,
+            over,
+            count,
+        })
+    }
+
     // The factorial of a form to a power above.
     fn with_up(self, form: LinForm, power: u32) -> Result<Factors, TermFault>
         requires some { 1 ≤ power }
@@ -108,13 +123,7 @@ impl Factors {
             count,
         } = self;
         let up = multiplied(up, form, power)?;
-        let count = within_limit(count + power)?;
-        Ok(Factors {
-            up,
-            down,
-            over,
-            count,
-        })
+        Factors::within_limit(up, down, over, count + power)
     }
 
     // The factorial of a form to a power below.
@@ -131,13 +140,7 @@ impl Factors {
             count,
         } = self;
         let down = multiplied(down, form, power)?;
-        let count = within_limit(count + power)?;
-        Ok(Factors {
-            up,
-            down,
-            over,
-            count,
-        })
+        Factors::within_limit(up, down, over, count + power)
     }
 
     // One over the form to a power.
@@ -154,13 +157,7 @@ impl Factors {
             count,
         } = self;
         let over = multiplied(over, form, power)?;
-        let count = within_limit(count + power)?;
-        Ok(Factors {
-            up,
-            down,
-            over,
-            count,
-        })
+        Factors::within_limit(up, down, over, count + power)
     }
 
     // The factorial of a form to a power: above where it is positive, and else below.

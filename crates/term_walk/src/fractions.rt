@@ -13,7 +13,8 @@ use lin_form::LinForm;
 use poly_fraction::Frac;
 use ring_laws::Whole;
 use std::alloc::Global;
-use tree_polynomials::{TermFault, times_power_of};
+use term_faults::TermFault;
+use tree_polynomials::times_power_of;
 
 // The number as a fraction.
 pub(crate) fn number_fraction(number: Whole) -> Frac<Whole>

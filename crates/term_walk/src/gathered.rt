@@ -13,7 +13,8 @@ use poly_fraction::Frac;
 use poly_generic::Znk;
 use ring_laws::{Ring, Whole};
 use std::alloc::Global;
-use tree_polynomials::{TermFault, times_power_of};
+use term_faults::TermFault;
+use tree_polynomials::times_power_of;
 
 /// The fields of a term, but for the guard, which stays empty until factorials are cancelled.
 ///

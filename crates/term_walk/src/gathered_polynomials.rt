@@ -17,7 +17,8 @@ use lin_form::times_power;
 use poly_generic::Znk;
 use ring_laws::{Ring, Whole};
 use std::alloc::Global;
-use tree_polynomials::{TermFault, constant_of, fault_at};
+use term_faults::{TermFault, fault_at};
+use tree_polynomials::constant_of;
 
 // The term 1.
 pub(crate) fn nothing_gathered(alloc: Global) -> Result<Gathered, TermFault>

@@ -4,7 +4,7 @@
 //! `TermFault`. What the class of a tree is stands in `term_classes`, `specs/Walk.antt`; what an answer says of it is `Answers` of
 //! `tree_polynomials`.
 //! Read `wide_forms.rt` (linear forms and their limits); `factors.rt`, `gathered.rt`, `fractions.rt` and `gathered_polynomials.rt` (what a
-//! walk has gathered); `powers.rt`, `exponents.rt`, `arguments.rt` and `walk.rt` (the walk); then `cancelling_forms.rt` (factorials above
+//! walk has gathered); `powers.rt`, `exponents.rt`, `arguments.rt`, `factorials.rt` and `walk.rt` (the walk); then `cancelling_forms.rt` (factorials above
 //! and below), `classes.rt` and `recurrences.rt`.
 #![tactic(auto)]
 
@@ -12,6 +12,7 @@ mod arguments;
 mod cancelling_forms;
 mod classes;
 mod exponents;
+mod factorials;
 mod factors;
 mod fractions;
 mod gathered;

@@ -11,8 +11,9 @@ use poly_generic::{Zn, Znk};
 use proper_term::free_of_k;
 use ring_laws::{Ring, RingFault};
 use std::alloc::Global;
+use term_faults::{LimitName, TermFault, fault_at};
 use term_text::Ast;
-use tree_polynomials::{LimitName, TermFault, fault_at, polynomial_of_tree};
+use tree_polynomials::polynomial_of_tree;
 
 // The greatest order of a recurrence.
 const MAX_ORDER: usize = 6;

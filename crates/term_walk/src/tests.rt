@@ -4,8 +4,8 @@ use crate::{classify, classify_quotient, polynomials};
 use proper_term::{Proper, natural, value};
 use ring_laws::Whole;
 use std::alloc::Global;
+use term_faults::{LimitName, TermFault};
 use term_text::{Ast, read_pair, read_recurrence, read_term};
-use tree_polynomials::{LimitName, TermFault};
 
 fn tree(alloc: Global, text: &[u8]) -> Option<Ast> {
     if text.len() > 65_536 {

@@ -5,7 +5,6 @@ ghost use Rattle.ring_laws.specs.Answer.{OnFault};
 ghost use Rattle.hypergeometric.specs.LinearForm.{LinearForm};
 ghost use Rattle.hypergeometric.specs.TreePolynomial.{constant_in_n};
 ghost use Rattle.lin_form.specs.Forms.{form_of};
-ghost use Rattle.term_classes.specs.Refusals.{capped};
 ghost use Rattle.term_classes.specs.Steps.{makes, of_number, within_limit};
 ghost use Rattle.term_classes.specs.Forms.{form_of_coefficients, form_of_items, linear_form_of, is_negative_constant, form_difference, difference_size, limited_form, limited_exponent};
 ghost use Rattle.tree_polynomials.specs.Answers.{Answers, limit_of};
@@ -17,7 +16,8 @@ use lin_form::LinForm;
 use poly_generic::{Zn, Znk};
 use ring_laws::{Ring, RingFault, Whole};
 use std::alloc::Global;
-use tree_polynomials::{LimitName, TermFault, fault_at};
+use term_faults::{LimitName, TermFault, fault_at};
+use tree_polynomials::number_within;
 
 /// `n_slope * n + k_slope * k + offset`, with numbers of 127 bits.
 #[derive(Clone, Copy, Drop)]
@@ -147,23 +147,4 @@ fn within_offset_limit(form: WideForm, name: LimitName, greatest: u64) -> Result
         Some(form) => Ok(form),
         None => unreachable!(),
     }
-}
-
-// The number, where its magnitude is within a limit.
-fn number_within(number: Whole, name: LimitName, greatest: u64) -> Result<i64, TermFault>
-    requires small { greatest ≤ 2 ^ 40 }
-    ensures answers { Answers (λ z. z) (within_limit (limit_of name) greatest (unsigned_abs number.value) number.value) result }
-{
-    let counted = capped_magnitude(number);
-    if counted > greatest {
-        return Err(TermFault::Limit { name, counted });
-    }
-    Ok(number.value() as i64)
-}
-
-// The magnitude of a number as a count, with 2^64 - 1 for what is above it.
-pub(crate) fn capped_magnitude(number: Whole) -> u64
-    ensures count { result ≡ capped (unsigned_abs number.value) }
-{
-    number.value().unsigned_abs().min(u128::from(u64::MAX)) as u64
 }

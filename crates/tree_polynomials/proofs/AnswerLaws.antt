@@ -8,10 +8,11 @@ use Rattle.term_classes.specs.Refusals as r
 use Rattle.term_classes.specs.Steps.{Steps, Counterpart, IsInBounds, IsTooLargeAt, makes, ◌then◌}
 use Rattle.term_classes.specs.Sought.{made_of}
 use Rattle.term_classes.proofs.StepLaws.{then_outcome, then_refused, too_large_first, too_large_later}
-use Rattle.tree_polynomials.specs.Answers.{HasCause, Answers, limit_of, fault_of}
+use Rattle.term_faults.specs.Faults.{fault_of}
+use Rattle.tree_polynomials.specs.Answers.{HasCause, Answers, limit_of}
 use Rattle.tree_polynomials.specs.Views.{found}
-use Rattle.tree_polynomials.specs.declared.faults.TermFault.{TermFault}
-use Rattle.tree_polynomials.specs.declared.faults.TermFault.TheVariants as fault
+use Rattle.term_faults.specs.declared.faults.TermFault.{TermFault}
+use Rattle.term_faults.specs.declared.faults.TermFault.TheVariants as fault
 
 -- a fault of the first steps is one of all
 pub first_cause : {A B : Type 0} (s : Steps A) (f : A → Steps B) (x : TermFault) → HasCause s x → HasCause (s then f) x

@@ -1,6 +1,6 @@
 -- Constants of trees of the code: by the node that stands there, and by the parts of a sum and of a product.
 use Rattle.std.proofs.Common.{◌≡◌, ℕ, ◌+◌, ◌<◌, ◌≤◌, refl, ap, sym, ◌∙◌, subst, List, [], ◌∷◌, ◌++◌, Bool, true, false, arith, length, get_or, drop, append-nil}
-use Rattle.std.proofs.lemmas.List.{drop_more, drop_all}
+use Rattle.std.proofs.lemmas.List.{drop_all}
 use Rattle.std.specs.Prelude.{Option, Some, None, Result, Ok}
 use Rattle.hypergeometric.specs.Fraction.{Fraction}
 use Rattle.hypergeometric.specs.Tree as d
@@ -14,8 +14,9 @@ use Rattle.term_classes.specs.Steps.{Steps, gives, ◌then◌}
 use Rattle.term_classes.specs.Sought.{FractionFactor, whole_fraction, negative_of, polynomial_sought, node_polynomial_sought, constant_sought, node_constant_sought, constants_sought}
 use Rattle.tree_polynomials.specs.Answers.{HasCause, Answers}
 use Rattle.tree_polynomials.specs.ConstantCases.{negative_sought}
-use Rattle.tree_polynomials.specs.declared.faults.TermFault.{TermFault}
+use Rattle.term_faults.specs.declared.faults.TermFault.{TermFault}
 use Rattle.tree_polynomials.proofs.AnswerLaws.{later_answer}
+use Rattle.tree_polynomials.proofs.NextParts.{next_part}
 use Rattle.tree_polynomials.proofs.PartsSought.{Continues, part_first, part_done, part_none, part_fault}
 
 -- where a tree has no polynomial, its node decides
@@ -53,13 +54,6 @@ several_parts (p ∷ q ∷ ps) h = by (part_of p).0
     by : (turned : Bool) → (negative_sought (d.part turned (part_of p).1 (parts_of (q ∷ ps)))).outcome ≡ Ok None
     by true = refl
     by false = refl
-
--- the part at an index comes next
-next_part : (ps : List Part) (i : ℕ) (p : Part) → i < length ps → p ≡ get_or ps i p
-    → parts_of (drop i ps) ≡ d.part p.turned (tree_of p.ast) (parts_of (drop (i + 1) ps))
-next_part ps i p below is =
-    ap parts_of (drop_more ps i p below)
-    ∙ ap (λ x. d.part x.0 x.1 (parts_of (drop (i + 1) ps))) (ap part_of (sym is) ∙ part_of-at p)
 
 -- the constants of the parts before an index are found
 abbrev pub FoundBefore : List Part → ℕ → List FractionFactor → Type 0

@@ -15,7 +15,8 @@ use Rattle.term_classes.specs.Forms.{is_zero}
 use Rattle.term_classes.specs.Sought.{FractionFactor, divides_by_zero, factor_fraction, product_of_fractions, top_sizes, bottom_sizes}
 use Rattle.term_classes.specs.Steps.{Counterpart, IsInBounds, of_fraction, makes}
 use Rattle.term_classes.proofs.FractionPowers.{product_assoc, one_product}
-use Rattle.tree_polynomials.specs.Answers.{HasCause, fault_of}
+use Rattle.term_faults.specs.Faults.{fault_of}
+use Rattle.tree_polynomials.specs.Answers.{HasCause}
 use Rattle.tree_polynomials.specs.Factors.{factor_of, factors_of}
 use Rattle.tree_polynomials.specs.declared.factors.Factor.{Factor}
 use Rattle.tree_polynomials.proofs.AnswerLaws.{ring_cause, made_too_large}

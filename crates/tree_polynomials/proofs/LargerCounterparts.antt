@@ -4,8 +4,8 @@ use Rattle.term_classes.specs.Refusals as r
 use Rattle.term_classes.specs.Steps.{Counterpart, Operation, IsInBounds, makes}
 use Rattle.term_classes.proofs.StepLaws.{not_refused}
 use Rattle.tree_polynomials.specs.Answers.{HasCause, limit_of}
-use Rattle.tree_polynomials.specs.declared.faults.TermFault.{TermFault}
-use Rattle.tree_polynomials.specs.declared.faults.TermFault.TheVariants as fault
+use Rattle.term_faults.specs.declared.faults.TermFault.{TermFault}
+use Rattle.term_faults.specs.declared.faults.TermFault.TheVariants as fault
 
 -- where the counterpart of an operation is at least that of another that isn't in bounds, it isn't
 pub larger_cause : {A B : Type 0} (at : ℕ) (c d : Counterpart) (a : A) (b : B) (x : TermFault) → (IsInBounds d → IsInBounds c)

@@ -1,4 +1,6 @@
 pub mod AnswerLaws
+pub mod Leading
+pub mod NextParts
 pub mod NumberPowers
 pub mod LowestFractions
 pub mod LargerCounterparts

@@ -1,5 +1,5 @@
 -- What is sought of a tree by the node that stands there.
-use Rattle.std.proofs.Common.{◌≡◌, ap, sym, ◌∙◌, subst, List, IsErrAnd}
+use Rattle.std.proofs.Common.{◌≡◌, ap, sym, ◌∙◌, subst, List}
 use Rattle.std.specs.Prelude.{pos, unsigned_abs, Option, Some, None, Result, Ok}
 use Rattle.ring_laws.specs.Meaning.{Meaning}
 use Rattle.ring_laws.specs.declared.wholes.Whole.{Whole}
@@ -12,11 +12,11 @@ use Rattle.term_text.specs.View.{tree_of, node_of, parts_of}
 use Rattle.term_text.proofs.Views.{node_of-literal, node_of-n, node_of-k, node_of-sum, node_of-product, node_of-pow, tree_of-at}
 use Rattle.term_classes.specs.Steps.{Steps, of_polynomial, gives, ◌then◌}
 use Rattle.term_classes.specs.Sought.{sum_of_polynomials, product_of_polynomials, sizes_added, sizes_multiplied, made_of, raised_at, polynomial_sought, node_polynomial_sought, summands_sought, factors_sought}
-use Rattle.tree_polynomials.specs.Answers.{HasCause, Answers}
+use Rattle.tree_polynomials.specs.Answers.{Answers}
 use Rattle.tree_polynomials.specs.Exponents.{raised_to}
 use Rattle.tree_polynomials.specs.Views.{found}
-use Rattle.tree_polynomials.specs.declared.faults.TermFault.{TermFault}
-use Rattle.tree_polynomials.proofs.AnswerLaws.{later_answer, fault_answer}
+use Rattle.term_faults.specs.declared.faults.TermFault.{TermFault}
+use Rattle.tree_polynomials.proofs.AnswerLaws.{later_answer}
 
 -- an answer of the same steps
 pub same_answer : {T A : Type 0} (result : Result T TermFault) (view : T → A) (s t : Steps A) → s ≡ t → Answers view t result → Answers view s result
@@ -73,11 +73,6 @@ product_answer result x a ps qs view given e h o k =
     (product_sought a qs (e ∙ ap Product (sym h)))
     (later_answer (found view) (factors_sought (parts_of qs)) (made_of a.at (λ ps. of_polynomial (sizes_multiplied ps)) product_of_polynomials)
     (found given x) result o k)
-
--- a fault that is passed on
-pub fault_passed : {T A : Type 0} (result : Result T TermFault) (x : TermFault) (view : T → A) (s : Steps A) → IsErrAnd result (λ y. y ≡ x)
-    → HasCause s x → Answers view s result
-fault_passed result x view s e h = fault_answer view s result x e h
 
 -- what was found, or that nothing was
 pub some_found : {T A : Type 0} (x : Option T) (y : T) (view : T → A) (s : Steps (Option A)) → s.outcome ≡ Ok (found view x) → x ≡ Some y

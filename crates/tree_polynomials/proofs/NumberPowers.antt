@@ -13,7 +13,8 @@ use Rattle.ring_laws.specs.Answer.{OnFault}
 use Rattle.ring_laws.specs.declared.faults.RingFault.{RingFault}
 use Rattle.term_classes.specs.Divisors.{nonzero_size}
 use Rattle.term_classes.specs.Steps.{makes, of_number}
-use Rattle.tree_polynomials.specs.Answers.{HasCause, fault_of}
+use Rattle.term_faults.specs.Faults.{fault_of}
+use Rattle.tree_polynomials.specs.Answers.{HasCause}
 use Rattle.tree_polynomials.proofs.AnswerLaws.{ring_cause, made_too_large}
 
 pub power_number : (b : ℤ) (n : ℕ) → power_in whole_algebra.ops (number b) n ≡ number (pow b n)

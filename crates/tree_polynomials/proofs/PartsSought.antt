@@ -5,7 +5,7 @@ use Rattle.term_classes.specs.Steps.{Steps, gives, ◌then◌}
 use Rattle.term_classes.specs.Sought.{in_front, where_some}
 use Rattle.term_classes.proofs.StepLaws.{then_outcome}
 use Rattle.tree_polynomials.specs.Answers.{HasCause}
-use Rattle.tree_polynomials.specs.declared.faults.TermFault.{TermFault}
+use Rattle.term_faults.specs.declared.faults.TermFault.{TermFault}
 use Rattle.tree_polynomials.proofs.AnswerLaws.{first_cause, later_cause}
 
 -- the whole is what the rest gives with these items in front

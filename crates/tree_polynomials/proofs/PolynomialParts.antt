@@ -1,27 +1,18 @@
 -- The polynomials of the parts of a sum and of a product, part by part.
-use Rattle.std.proofs.Common.{◌≡◌, ℕ, ◌+◌, ◌<◌, ◌≤◌, Bool, true, false, refl, ap, sym, ◌∙◌, subst, arith, List, [], ◌∷◌, ◌++◌, map, length, drop, get_or, append-nil}
+use Rattle.std.proofs.Common.{◌≡◌, ℕ, ◌+◌, ◌<◌, ◌≤◌, Bool, true, false, refl, ap, sym, ◌∙◌, subst, List, [], ◌∷◌, ◌++◌, map, length, drop, get_or, append-nil}
 use Rattle.std.proofs.lemmas.List.{map-append}
-use Rattle.std.proofs.lemmas.Grind.{common_steps}
 use Rattle.std.specs.Prelude.{not, if◌then◌else◌, Option, Some, None, Ok}
 use Rattle.ring_laws.specs.Meaning.{Meaning}
 use Rattle.hypergeometric.specs.Tree.{Parts, part, no_parts}
 use Rattle.lin_form.proofs.ListProducts.{all_dropped}
 use Rattle.term_text.specs.declared.ast.Part.{Part}
 use Rattle.term_text.specs.View.{tree_of, parts_of}
-use Rattle.term_text.proofs.Views.{part_of-at}
 use Rattle.term_classes.specs.Steps.{Steps}
 use Rattle.term_classes.specs.Sought.{polynomial_sought, summands_sought, factors_sought, signed_polynomial}
 use Rattle.tree_polynomials.specs.Answers.{HasCause}
-use Rattle.tree_polynomials.specs.declared.faults.TermFault.{TermFault}
+use Rattle.term_faults.specs.declared.faults.TermFault.{TermFault}
+use Rattle.tree_polynomials.proofs.NextParts.{next_part}
 use Rattle.tree_polynomials.proofs.PartsSought.{Continues, part_first, part_done, part_none, part_fault}
-
--- the part that is next
-next_part : (ps : List Part) (i : ℕ) (p : Part) → i < length ps → p ≡ get_or ps i p
-    → parts_of (drop i ps) ≡ part p.turned (tree_of p.ast) (parts_of (drop (i + 1) ps))
-next_part ps i p h e = ap parts_of (drop_at ps i p h e) ∙ ap (λ x. part x.0 x.1 (parts_of (drop (i + 1) ps))) (part_of-at p)
-  where
-    drop_at : (ps : List Part) (i : ℕ) (p : Part) → i < length ps → p ≡ get_or ps i p → drop i ps ≡ p ∷ drop (i + 1) ps
-    drop_at ps i p h e = grind (arith, common_steps)
 
 -- the parts of a sum
 module _ (ps : List Part) (i : ℕ) (p : Part) (done : List Meaning) (below : i < length ps) (is : p ≡ get_or ps i p)

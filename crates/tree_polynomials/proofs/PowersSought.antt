@@ -9,11 +9,13 @@ use Rattle.term_text.specs.View.{tree_of}
 use Rattle.term_classes.specs.Steps.{Steps, ◌then◌}
 use Rattle.term_classes.specs.Sought.{raised_at, polynomial_sought}
 use Rattle.tree_polynomials.specs.Answers.{HasCause, Answers}
-use Rattle.tree_polynomials.specs.Exponents.{with_exponent, raised_to, Leads, ToExponent}
+use Rattle.tree_polynomials.specs.Exponents.{with_exponent, raised_to, ToExponent}
+use Rattle.tree_polynomials.specs.Leads.{Leads}
 use Rattle.tree_polynomials.specs.Views.{found}
-use Rattle.tree_polynomials.specs.declared.faults.TermFault.{TermFault}
+use Rattle.term_faults.specs.declared.faults.TermFault.{TermFault}
 use Rattle.tree_polynomials.proofs.AnswerLaws.{first_cause, later_answer}
-use Rattle.tree_polynomials.proofs.ExponentLaws.{leads_cause, leads_answer, to_exponent_later}
+use Rattle.tree_polynomials.proofs.ExponentLaws.{to_exponent_later}
+use Rattle.tree_polynomials.proofs.Leading.{leads_answer}
 use Rattle.tree_polynomials.proofs.NodesSought.{power_sought, some_found}
 
 -- an exponent that a code found, as what follows from it
@@ -51,13 +53,13 @@ module _ (a base exponent : Ast) (is : a.node ≡ Pow base exponent) (read : Ast
 
     pub base_fault : (x : TermFault) → HasCause (polynomial_sought (tree_of b)) x → HasCause (polynomial_sought (tree_of a)) x
     base_fault x k =
-        leads_cause (polynomial_sought (tree_of a)) (after_exponent power) x leads
+        leads.cause x
         (first_cause (polynomial_sought (tree_of base)) (raised_at a.at power) x (subst (λ t. HasCause (polynomial_sought (tree_of t)) x) b_is k))
 
     pub base_raised : {T : Type 0} (result : Result (Option T) TermFault) (x : Option T) (view : T → Meaning)
         → (polynomial_sought (tree_of b)).outcome ≡ Ok (found view x) → Answers (found view) (raised_at a.at power (found view x)) result
         → Answers (found view) (polynomial_sought (tree_of a)) result
     base_raised result x view k answers =
-        leads_answer (found view) (polynomial_sought (tree_of a)) (after_exponent power) result leads
+        leads_answer (found view) result leads
         (later_answer (found view) (polynomial_sought (tree_of base)) (raised_at a.at power) (found view x) result
         (subst (λ t. (polynomial_sought (tree_of t)).outcome ≡ Ok (found view x)) b_is k) answers)

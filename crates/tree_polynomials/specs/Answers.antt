@@ -1,13 +1,11 @@
 -- What an answer of the code says of what is done with a tree, step by step.
-use Rattle.std.specs.Prelude.{◌≡◌, ℕ, Result, Ok, Err}
-use Rattle.ring_laws.specs.declared.faults.RingFault.{RingFault}
-use Rattle.ring_laws.specs.declared.faults.RingFault.TheVariants as ring
+use Rattle.std.specs.Prelude.{◌≡◌, Result, Ok, Err}
 use Rattle.term_classes.specs.Refusals as r
 use Rattle.term_classes.specs.Steps.{Steps, IsTooLargeAt}
-use Rattle.tree_polynomials.specs.declared.faults.LimitName.{LimitName}
-use Rattle.tree_polynomials.specs.declared.faults.LimitName.TheVariants.{Factors, Slope, Offset, Exponent, Order, Degree, MatchShifts, Columns, HyperPairs, BoxSide}
-use Rattle.tree_polynomials.specs.declared.faults.TermFault.{TermFault}
-use Rattle.tree_polynomials.specs.declared.faults.TermFault.TheVariants as fault
+use Rattle.term_faults.specs.declared.limits.LimitName.{LimitName}
+use Rattle.term_faults.specs.declared.limits.LimitName.TheVariants.{Factors, Slope, Offset, Exponent, Order, Degree, MatchShifts, Columns, HyperPairs, BoxSide}
+use Rattle.term_faults.specs.declared.faults.TermFault.{TermFault}
+use Rattle.term_faults.specs.declared.faults.TermFault.TheVariants as fault
 
 abbrev pub limit_of : LimitName → r.Limit
 limit_of Factors = r.factors_limit
@@ -20,11 +18,6 @@ limit_of MatchShifts = r.match_shifts_limit
 limit_of Columns = r.columns_limit
 limit_of HyperPairs = r.hyper_pairs_limit
 limit_of BoxSide = r.box_side_limit
-
--- the fault of the arithmetic of the node at a place
-abbrev pub fault_of : ℕ → RingFault → TermFault
-fault_of at ring.TooLarge = fault.TooLarge at
-fault_of at ring.Memory = fault.Memory
 
 -- The steps end with this refusal, or an operation of the node at the place isn't in bounds. Want of memory may come whatever they are.
 abbrev pub HasCause : {A : Type 0} → Steps A → TermFault → Type 0

@@ -3,10 +3,11 @@ use Rattle.std.specs.Prelude.{◌≡◌, ℕ, ℤ, unsigned_abs, Option, Some, N
 use Rattle.ring_laws.specs.Meaning.{Meaning}
 use Rattle.hypergeometric.specs.TreePolynomial.{constant_of}
 use Rattle.term_classes.specs.Refusals.{exponent_limit}
-use Rattle.term_classes.specs.Steps.{Steps, IsTooLargeAt, within_limit, ◌then◌}
+use Rattle.term_classes.specs.Steps.{Steps, within_limit, ◌then◌}
 use Rattle.term_classes.specs.Sought.{where_some, where_natural}
 use Rattle.tree_polynomials.specs.Answers.{HasCause}
-use Rattle.tree_polynomials.specs.declared.faults.TermFault.{TermFault}
+use Rattle.tree_polynomials.specs.Leads.{Leads}
+use Rattle.term_faults.specs.declared.faults.TermFault.{TermFault}
 
 -- what follows from a constant exponent from 0 to 12
 abbrev pub with_exponent : (ℕ → Steps (Option Meaning)) → ℤ → Steps (Option Meaning)
@@ -15,11 +16,6 @@ with_exponent f c = within_limit exponent_limit 12 (unsigned_abs c) c then (λ c
 -- what follows from the polynomial of an exponent that is sought
 abbrev pub raised_to : Steps (Option Meaning) → (ℕ → Steps (Option Meaning)) → Steps (Option Meaning)
 raised_to s f = s then (λ p. where_some (constant_of p) (with_exponent f))
-
--- all steps come out as the last of them do, and have their operations
-pub record Leads {A : Type 0} (whole rest : Steps A) : Type 0 where
-  pub outcome : whole.outcome ≡ rest.outcome
-  pub too_large : (at : ℕ) → IsTooLargeAt rest at → IsTooLargeAt whole at
 
 -- the steps go on with the exponent that was found, and end where there is none
 abbrev pub ToExponent : (ℕ → Steps (Option Meaning)) → Steps (Option Meaning) → Result (Option ℕ) TermFault → Type 0

@@ -1,4 +1,5 @@
 pub mod Answers
+pub mod Leads
 pub mod Exponents
 pub mod Views
 pub mod Factors

@@ -1,10 +1,11 @@
 //! Constants of texts that are known from elsewhere.
 
-use crate::{LimitName, TermFault, constant_of_tree, times_power_of};
+use crate::{constant_of_tree, times_power_of};
 use poly_fraction::Frac;
 use ring_laws::{RingFault, Whole};
 use std::alloc::Global;
 use std::test::Fail;
+use term_faults::{LimitName, TermFault};
 use term_text::read_term;
 
 // The constant of a text, and no memory for one that isn't read.

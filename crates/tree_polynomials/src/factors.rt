@@ -10,11 +10,11 @@ ghost use Rattle.tree_polynomials.specs.Answers.{Answers};
 ghost use Rattle.tree_polynomials.specs.Factors.{factor_of, factors_of};
 ghost use Rattle.tree_polynomials.specs.Views.{found, fraction_value};
 
-use crate::faults::{TermFault, fault_at};
 use crate::fractions::{lowered, over};
 use poly_fraction::Frac;
 use ring_laws::Whole;
 use std::alloc::Global;
+use term_faults::{TermFault, fault_at};
 
 /// A fraction of a product, and whether it is divided by.
 #[derive(Drop)]

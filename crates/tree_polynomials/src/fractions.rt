@@ -7,11 +7,11 @@ ghost use Rattle.term_classes.specs.Walk.{times_power};
 ghost use Rattle.tree_polynomials.specs.Answers.{Answers};
 ghost use Rattle.tree_polynomials.specs.Views.{fraction_value};
 
-use crate::faults::TermFault;
 use crate::powers::number_times_power;
 use poly_fraction::{Frac, lowest};
 use ring_laws::Whole;
 use std::alloc::Global;
+use term_faults::TermFault;
 
 // A numerator over a denominator.
 pub(crate) fn over(top: Whole, bottom: Whole) -> Frac<Whole>

@@ -9,12 +9,12 @@ ghost use Rattle.term_classes.specs.Sought.{made_of, raised_at, sizes_added, siz
 ghost use Rattle.tree_polynomials.specs.Answers.{Answers};
 ghost use Rattle.tree_polynomials.specs.Views.{found};
 
-use crate::faults::{TermFault, fault_at};
 use crate::products::{power_of, product_of};
 use crate::sums::sum_of;
 use poly_generic::Znk;
 use ring_laws::{Ring, RingFault};
 use std::alloc::Global;
+use term_faults::{TermFault, fault_at};
 
 // The polynomial that a call of the ring gives as that of the node at a place, and its fault as one of the node's arithmetic.
 pub(crate) fn answer_at(

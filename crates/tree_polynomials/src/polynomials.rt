@@ -11,13 +11,13 @@ ghost use Rattle.tree_polynomials.specs.Exponents.{raised_to, ToExponent};
 ghost use Rattle.tree_polynomials.specs.Views.{found, whole_value};
 
 use crate::exponents::natural_exponent;
-use crate::faults::TermFault;
 use crate::leaves::{literal, variable_k, variable_n};
 use crate::operations::{added, answer_at, multiplied, raised};
 use crate::sums::signed;
 use poly_generic::{Zn, Znk};
 use ring_laws::{Ring, Whole};
 use std::alloc::Global;
+use term_faults::TermFault;
 use term_text::{Ast, Node, Part};
 
 // The number that a polynomial in n is, `None` exactly where it isn't constant.

@@ -7,10 +7,10 @@ ghost use Rattle.term_classes.specs.Divisors.{nonzero_size};
 ghost use Rattle.tree_polynomials.specs.Answers.{Answers};
 ghost use Rattle.tree_polynomials.specs.Views.{whole_value};
 
-use crate::faults::{TermFault, fault_at};
 use lin_form::times_power;
 use ring_laws::Whole;
 use std::alloc::Global;
+use term_faults::{TermFault, fault_at};
 
 // The product times the base as often as the power says, as an operation of the node at the place.
 pub(crate) fn number_times_power(

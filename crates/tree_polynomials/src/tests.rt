@@ -1,10 +1,11 @@
 //! Polynomials of texts that are known from elsewhere.
 
-use crate::{LimitName, TermFault, constant_of, polynomial_of_tree};
+use crate::{constant_of, polynomial_of_tree};
 use poly_generic::{Zn, Znk};
 use ring_laws::{Ring, RingFault, Whole};
 use std::alloc::Global;
 use std::test::Fail;
+use term_faults::{LimitName, TermFault};
 use term_text::read_term;
 
 // The polynomial of a text, and no memory for one that isn't read.

@@ -9,7 +9,7 @@ use Rattle.lin_form.specs.Forms.{form_of}
 use Rattle.term_text.specs.View.{tree_of}
 use Rattle.tree_polynomials.specs.Views.{found, fraction_value}
 use Rattle.term_walk.specs.Views.{gathered_of, wide_form_of}
-use Rattle.term_walk.proofs.Leads.{leads_answer}
+use Rattle.tree_polynomials.proofs.Leading.{leads_answer}
 use Rattle.term_classes.proofs.WalkValues.{base_found}
 use Rattle.term_walk.proofs.RowLeads as row
 use Rattle.term_walk.proofs.exponents.times_exponential_of.Goals as goal

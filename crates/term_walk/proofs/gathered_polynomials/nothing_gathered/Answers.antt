@@ -6,14 +6,14 @@ use Rattle.term_classes.specs.Steps.{gives}
 use Rattle.term_classes.specs.Walk.{unit_term}
 use Rattle.term_walk.specs.Views.{gathered_of}
 use Rattle.term_walk.proofs.LowestFields.{is_lowest, one_terms}
-use Rattle.term_walk.proofs.PassedFaults.{passed_on}
+use Rattle.tree_polynomials.proofs.AnswerLaws.{fault_answer}
 use Rattle.term_walk.proofs.UnitTerms.{unit_given}
 use Rattle.term_classes.proofs.PassingPolynomials.{unit_not_nought}
 use Rattle.term_walk.proofs.gathered_polynomials.nothing_gathered.Goals as goal
 
 pub returns-in_err-factors : goal.returns-in_err-factors
 returns-in_err-factors c = record {
-  answers = passed_on gathered_of (gives unit_term) c.from_residual.result c.in_err-factors.field-0.0 c.from_residual.ensures.1
+  answers = fault_answer gathered_of (gives unit_term) c.from_residual.result c.in_err-factors.field-0.0 c.from_residual.ensures.1
       (c.in_err-factors.ensures.answers unit_term);
 }
 

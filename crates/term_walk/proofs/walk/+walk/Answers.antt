@@ -12,7 +12,7 @@ use Rattle.tree_polynomials.specs.Views.{found}
 use Rattle.term_walk.specs.Views.{gathered_of, wide_form_of}
 use Rattle.term_walk.specs.WalkRows.{zero_exponent, constant, varying, is_one_turned}
 use Rattle.term_walk.proofs.HeldNumbers.{held}
-use Rattle.term_walk.proofs.Leads.{leads_on}
+use Rattle.tree_polynomials.proofs.Leading.{leads_on}
 use Rattle.term_walk.proofs.ArgumentNodes.{pow_refused, pow_answer, same_trees, factorial_answer, binomial_answer}
 use Rattle.term_walk.proofs.NodeRows.{at_node, leaf_answer, product_answer, some_part, one_turned, plain_sum}
 use Rattle.term_walk.proofs.TreeSizes.{tree_size, parts_size, product_smaller, sum_smaller, base_smaller, part_smaller}

@@ -7,7 +7,7 @@ use Rattle.term_classes.specs.Sought.{polynomial_sought}
 use Rattle.term_classes.specs.Walk.{times_sought, place_of}
 use Rattle.tree_polynomials.proofs.AnswerLaws.{first_cause}
 use Rattle.term_walk.specs.Views.{gathered_of}
-use Rattle.term_walk.proofs.Leads.{leads_answer}
+use Rattle.tree_polynomials.proofs.Leading.{leads_answer}
 use Rattle.term_walk.proofs.RowLeads.{sought_leads}
 use Rattle.term_walk.proofs.walk.times_polynomial_of.Goals as goal
 

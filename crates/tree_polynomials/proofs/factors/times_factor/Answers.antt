@@ -4,10 +4,11 @@ use Rattle.poly_fraction.specs.FractionOf.{fraction_of}
 use Rattle.term_classes.specs.Divisors.{size_of_top, size_of_bottom}
 use Rattle.term_classes.specs.Sought.{factor_fraction}
 use Rattle.term_classes.specs.Steps.{makes, of_fraction}
-use Rattle.tree_polynomials.specs.Answers.{HasCause, fault_of}
+use Rattle.term_faults.specs.Faults.{fault_of}
+use Rattle.tree_polynomials.specs.Answers.{HasCause}
 use Rattle.tree_polynomials.specs.Factors.{factor_of}
 use Rattle.tree_polynomials.specs.Views.{fraction_value}
-use Rattle.tree_polynomials.specs.declared.faults.TermFault.{TermFault}
+use Rattle.term_faults.specs.declared.faults.TermFault.{TermFault}
 use Rattle.tree_polynomials.proofs.FactorProducts.{product_fault}
 use Rattle.tree_polynomials.proofs.factors.times_factor.Goals as goal
 

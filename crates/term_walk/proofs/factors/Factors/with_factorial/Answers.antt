@@ -7,7 +7,7 @@ use Rattle.term_classes.specs.Walk.{with_lists, few_factors}
 use Rattle.tree_polynomials.specs.Answers.{Answers}
 use Rattle.term_walk.specs.Views.{with_factors}
 use Rattle.term_walk.proofs.CodePowers.{is_positive, is_not_positive, size_is}
-use Rattle.term_walk.proofs.FactorCounts.{above, below}
+use Rattle.term_walk.proofs.FactorialSides.{above, below}
 use Rattle.term_walk.proofs.factors.Factors.with_factorial.Goals as goal
 
 pub returns-then-power-gt0 : goal.returns-then-power-gt0

@@ -8,7 +8,7 @@ use Rattle.tree_polynomials.specs.Views.{fraction_value}
 use Rattle.term_walk.specs.Views.{gathered_of}
 use Rattle.term_walk.proofs.CodePowers.{exponent_is}
 use Rattle.term_walk.proofs.LowestFields.{lowest_defined, tested_nonzero, power_lowest}
-use Rattle.term_walk.proofs.PassedFaults.{passed_on}
+use Rattle.tree_polynomials.proofs.AnswerLaws.{fault_answer}
 use Rattle.term_walk.proofs.ScaleSteps.{exponential_given, n_fault, k_fault, scale_fault}
 use Rattle.term_walk.proofs.gathered.Gathered.times_exponential.Goals as goal
 
@@ -19,7 +19,7 @@ returns-in_err-n_base c =
     (record { sfits = c.product-n_power.type_inv }) c.ranges.power
     (record { sfits = c.n_slope.type_inv }) c.product-n_power.ensures.product c.n_slope.ensures.n_slope in
     record {
-      answers = passed_on gathered_of (times_exponential c.args.at (fraction_value c.args.base.now) (form_of c.args.exponent) c.args.power (gathered_of c.args.self)
+      answers = fault_answer gathered_of (times_exponential c.args.at (fraction_value c.args.base.now) (form_of c.args.exponent) c.args.power (gathered_of c.args.self)
           )
           c.from_residual.result c.in_err-n_base.field-0.0 c.from_residual.ensures.1
           (n_fault c.args.at (fraction_value c.args.base.now) (form_of c.args.exponent) c.args.power (gathered_of c.args.self)
@@ -40,7 +40,7 @@ returns-in_err-k_base c =
     (record { sfits = c.product-k_power.type_inv }) c.ranges.power
     (record { sfits = c.k_slope.type_inv }) c.product-k_power.ensures.product c.k_slope.ensures.k_slope in
     record {
-      answers = passed_on gathered_of (times_exponential c.args.at (fraction_value c.args.base.now) (form_of c.args.exponent) c.args.power (gathered_of c.args.self)
+      answers = fault_answer gathered_of (times_exponential c.args.at (fraction_value c.args.base.now) (form_of c.args.exponent) c.args.power (gathered_of c.args.self)
           )
           c.from_residual-in_err-k_base.result c.in_err-k_base.field-0.0 c.from_residual-in_err-k_base.ensures.1
           (k_fault c.args.at (fraction_value c.args.base.now) (form_of c.args.exponent) c.args.power (gathered_of c.args.self)
@@ -68,7 +68,7 @@ returns-in_err-scale c =
     (record { sfits = c.product-scale_power.type_inv }) c.ranges.power
     (record { sfits = c.offset.type_inv }) c.product-scale_power.ensures.product c.offset.ensures.offset in
     record {
-      answers = passed_on gathered_of (times_exponential c.args.at (fraction_value c.args.base.now) (form_of c.args.exponent) c.args.power (gathered_of c.args.self)
+      answers = fault_answer gathered_of (times_exponential c.args.at (fraction_value c.args.base.now) (form_of c.args.exponent) c.args.power (gathered_of c.args.self)
           )
           c.from_residual-in_err-scale.result c.in_err-scale.field-0.0 c.from_residual-in_err-scale.ensures.1
           (scale_fault c.args.at (fraction_value c.args.base.now) (form_of c.args.exponent) c.args.power (gathered_of c.args.self)

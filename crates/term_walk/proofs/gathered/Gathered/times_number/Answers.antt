@@ -10,7 +10,7 @@ use Rattle.tree_polynomials.specs.Views.{fraction_value}
 use Rattle.term_walk.specs.Views.{gathered_of}
 use Rattle.term_walk.proofs.CodePowers.{tested_sign}
 use Rattle.term_walk.proofs.LowestFields.{lowest_defined, power_lowest}
-use Rattle.term_walk.proofs.PassedFaults.{passed_on}
+use Rattle.tree_polynomials.proofs.AnswerLaws.{fault_answer}
 use Rattle.term_walk.proofs.ScaleSteps.{zero_refused, number_given, number_fault}
 use Rattle.term_walk.proofs.gathered.Gathered.times_number.Goals as goal
 use Rattle.term_walk.proofs.gathered.Gathered.times_number.Goals.{then-power-lt0, else-power-lt0}
@@ -32,7 +32,7 @@ pub returns-in_err-scale : goal.returns-in_err-scale
 returns-in_err-scale c =
     let some : c.args.number.value ≢ pos 0 = λ e. c.if-value-eq0.false (omega (arith, ints, e, c.value.ensures.value)) in
     record {
-      answers = passed_on gathered_of (times_number c.args.at c.args.number.value c.args.power (gathered_of c.args.self))
+      answers = fault_answer gathered_of (times_number c.args.at c.args.number.value c.args.power (gathered_of c.args.self))
           c.from_residual.result c.in_err-scale.field-0.0 c.from_residual.ensures.1
           (number_fault c.args.at c.args.number.value c.args.power (gathered_of c.args.self) c.in_err-scale.field-0.0 some
           (subst (λ f. HasCause (times_power c.args.at (fraction_value c.args.self.scale) f c.args.power) c.in_err-scale.field-0.0)

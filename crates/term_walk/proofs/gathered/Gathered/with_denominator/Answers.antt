@@ -15,7 +15,7 @@ use Rattle.tree_polynomials.specs.Views.{fraction_value}
 use Rattle.term_walk.specs.Views.{gathered_of, with_factors}
 use Rattle.term_walk.proofs.CodePowers.{opposite_is, fraction_is}
 use Rattle.term_walk.proofs.LowestFields.{lowest_defined, power_lowest}
-use Rattle.term_walk.proofs.PassedFaults.{passed_on}
+use Rattle.tree_polynomials.proofs.AnswerLaws.{fault_answer}
 use Rattle.term_walk.proofs.FormContents.{IsContent, content_found, content_fits, some_number}
 use Rattle.term_walk.proofs.ScaleSteps.{denominator_given, more_fault, content_fault}
 use Rattle.term_walk.proofs.gathered.Gathered.with_denominator.Goals as goal
@@ -26,7 +26,7 @@ returns-in_err-factors c =
     let found : IsContent (form_of c.args.form) c.primitive-content.result.0 (form_of c.primitive-content.result.1) =
     content_found (form_of c.args.form) _ _ c.requires.not_zero c.primitive-content.ensures.only in
     record {
-      answers = passed_on gathered_of (with_denominator c.args.at (form_of c.args.form) c.args.power (gathered_of c.args.self))
+      answers = fault_answer gathered_of (with_denominator c.args.at (form_of c.args.form) c.args.power (gathered_of c.args.self))
           c.from_residual.result c.in_err-factors.field-0.0 c.from_residual.ensures.1
           (more_fault c.args.at (form_of c.args.form) c.args.power (gathered_of c.args.self) c.in_err-factors.field-0.0
           (subst (λ l. HasCause (few_factors (with_lists (list_of c.args.self.factors.up).factors (list_of c.args.self.factors.down).factors
@@ -67,7 +67,7 @@ returns-in_err-scale c =
     (with_factor l c.args.power (list_of c.args.self.factors.over).factors) (gathered_of c.args.self).guard (gathered_of c.args.self))).outcome
     ≡ Ok (with_factors (gathered_of c.args.self) c.in_ok-factors.factors)) found.primitive (c.in_ok-factors.ensures.answers (gathered_of c.args.self)) in
     record {
-      answers = passed_on gathered_of (with_denominator c.args.at (form_of c.args.form) c.args.power (gathered_of c.args.self))
+      answers = fault_answer gathered_of (with_denominator c.args.at (form_of c.args.form) c.args.power (gathered_of c.args.self))
           c.from_residual-in_err-scale.result c.in_err-scale.field-0.0 c.from_residual-in_err-scale.ensures.1
           (content_fault c.args.at (form_of c.args.form) c.args.power (gathered_of c.args.self)
           (with_factors (gathered_of c.args.self) c.in_ok-factors.factors) c.in_err-scale.field-0.0 few

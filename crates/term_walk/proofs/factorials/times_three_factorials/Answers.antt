@@ -6,10 +6,10 @@ use Rattle.lin_form.specs.Forms.{form_of}
 use Rattle.term_classes.specs.Walk.{with_factorial}
 use Rattle.tree_polynomials.proofs.AnswerLaws.{first_cause}
 use Rattle.term_walk.specs.Views.{gathered_of}
-use Rattle.term_walk.proofs.Leads.{leads_on, leads_answer}
+use Rattle.tree_polynomials.proofs.Leading.{leads_on, leads_answer}
 use Rattle.term_walk.proofs.HeldNumbers.{held, opposite_held}
 use Rattle.term_walk.proofs.BinomialLeads.{below_left, above_leads, below_leads}
-use Rattle.term_walk.proofs.walk.times_three_factorials.Goals as goal
+use Rattle.term_walk.proofs.factorials.times_three_factorials.Goals as goal
 
 -- the factorial above
 pub returns-in_err-once : goal.returns-in_err-once

@@ -8,10 +8,10 @@ use Rattle.term_classes.specs.Walk.{not_negative}
 use Rattle.tree_polynomials.proofs.AnswerLaws.{first_cause}
 use Rattle.term_walk.specs.Views.{gathered_of, wide_form_of}
 use Rattle.term_walk.specs.WalkRows.{limits_left}
-use Rattle.term_walk.proofs.Leads.{leads_on, leads_answer}
+use Rattle.tree_polynomials.proofs.Leading.{leads_on, leads_answer}
 use Rattle.term_walk.proofs.HeldNumbers.{held}
 use Rattle.term_walk.proofs.BinomialLeads.{difference_leads, difference_kept}
-use Rattle.term_walk.proofs.walk.times_two_forms.Goals as goal
+use Rattle.term_walk.proofs.factorials.times_two_forms.Goals as goal
 
 -- a difference that is out of bounds
 pub returns-in_err-between : goal.returns-in_err-between

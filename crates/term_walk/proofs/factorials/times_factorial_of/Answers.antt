@@ -13,9 +13,9 @@ use Rattle.term_classes.specs.Forms.{limited_form}
 use Rattle.term_classes.specs.Walk.{argument_sought, not_negative, place_of, with_factorial}
 use Rattle.tree_polynomials.proofs.AnswerLaws.{first_cause}
 use Rattle.term_walk.specs.Views.{gathered_of, wide_form_of}
-use Rattle.term_walk.proofs.Leads.{leads_on, leads_answer}
+use Rattle.tree_polynomials.proofs.Leading.{leads_on, leads_answer}
 use Rattle.term_walk.proofs.RowLeads.{argument_leads, kept_leads, limited_leads}
-use Rattle.term_walk.proofs.walk.times_factorial_of.Goals as goal
+use Rattle.term_walk.proofs.factorials.times_factorial_of.Goals as goal
 
 -- no argument
 pub returns-in_err-form : goal.returns-in_err-form

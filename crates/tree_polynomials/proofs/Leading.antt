@@ -1,15 +1,12 @@
--- Steps that lead to others: what comes out of the others comes out of the whole, and a fault of the others is one of the whole.
+-- What steps that lead to others say of an answer.
 use Rattle.std.proofs.Common.{◌≡◌, ◌∙◌}
 use Rattle.std.specs.Prelude.{Result, Ok, Err}
 use Rattle.term_classes.specs.Steps.{Steps, ◌then◌}
 use Rattle.term_classes.proofs.StepLaws.{then_outcome}
-use Rattle.tree_polynomials.specs.Answers.{HasCause, Answers}
-use Rattle.tree_polynomials.specs.declared.faults.TermFault.{TermFault}
+use Rattle.term_faults.specs.declared.faults.TermFault.{TermFault}
+use Rattle.tree_polynomials.specs.Answers.{Answers}
+use Rattle.tree_polynomials.specs.Leads.{Leads}
 use Rattle.tree_polynomials.proofs.AnswerLaws.{later_cause}
-
-pub record Leads {A : Type 0} (whole rest : Steps A) : Type 0 where
-  pub outcome : whole.outcome ≡ rest.outcome
-  pub cause : (x : TermFault) → HasCause rest x → HasCause whole x
 
 -- what the first steps gave leads to what follows from it
 pub leads : {A B : Type 0} (s : Steps A) (f : A → Steps B) (y : A) → s.outcome ≡ Ok y → Leads (s then f) (f y)

@@ -2,7 +2,7 @@ use Rattle.std.proofs.Common.{◌≡◌, ℕ, List, ◌++◌, ap, sym, ◌∙◌
 use Rattle.std.specs.Prelude.{codes}
 use Rattle.std.specs.Fmt.{decimal}
 use Rattle.std.proofs.lemmas.Result.{IfOk-weaker}
-use Rattle.ekhad_cli.proofs.refusal.improper_line.Goals as goal
+use Rattle.ekhad_cli.proofs.lines.improper_line.Goals as goal
 
 -- the pieces behind the first one, grouped to the left
 grouped : (b c d e : List ℕ) → b ++ (c ++ (d ++ e)) ≡ ((b ++ c) ++ d) ++ e

@@ -8,10 +8,10 @@ use Rattle.term_classes.specs.Forms.{limited_form}
 use Rattle.tree_polynomials.proofs.AnswerLaws.{first_cause}
 use Rattle.term_walk.specs.Views.{gathered_of, wide_form_of}
 use Rattle.term_walk.specs.WalkRows.{factorials_left}
-use Rattle.term_walk.proofs.Leads.{leads_on, leads_answer}
+use Rattle.tree_polynomials.proofs.Leading.{leads_on, leads_answer}
 use Rattle.term_walk.proofs.HeldNumbers.{held}
 use Rattle.term_walk.proofs.BinomialLeads.{first_limited, second_limited, third_limited}
-use Rattle.term_walk.proofs.walk.times_three_forms.Goals as goal
+use Rattle.term_walk.proofs.factorials.times_three_forms.Goals as goal
 
 -- the limits of the first form
 pub returns-in_err-above : goal.returns-in_err-above

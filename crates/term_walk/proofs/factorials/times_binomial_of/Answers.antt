@@ -8,10 +8,10 @@ use Rattle.term_classes.specs.Walk.{argument_sought, not_negative, place_of}
 use Rattle.tree_polynomials.proofs.AnswerLaws.{first_cause}
 use Rattle.term_walk.specs.Views.{gathered_of, wide_form_of}
 use Rattle.term_walk.specs.WalkRows.{difference_left}
-use Rattle.term_walk.proofs.Leads.{leads_on, leads_answer}
+use Rattle.tree_polynomials.proofs.Leading.{leads_on, leads_answer}
 use Rattle.term_walk.proofs.HeldNumbers.{held}
 use Rattle.term_walk.proofs.BinomialLeads.{lower_left, forms_left, lower_sought, upper_leads, are_found, found_leads, upper_kept, lower_kept}
-use Rattle.term_walk.proofs.walk.times_binomial_of.Goals as goal
+use Rattle.term_walk.proofs.factorials.times_binomial_of.Goals as goal
 
 -- no upper argument
 pub returns-in_err-upper_form : goal.returns-in_err-upper_form

@@ -1,6 +1,6 @@
 use Rattle.std.proofs.Common.{refl, inr}
 use Rattle.ekhad_cli.specs.declared.refusal.Refusal.TheVariants.{Memory}
-use Rattle.ekhad_cli.proofs.refusal.refuse.Goals as goal
+use Rattle.ekhad_cli.proofs.lines.refuse.Goals as goal
 
 -- there was no memory for the line
 pub returns-in-Err-clause-said : goal.returns-in-Err-clause-said

@@ -1,35 +1,11 @@
 //! Why a tree stands for no term.
 
 ghost use Rattle.std.specs.Prelude.{◌≡◌};
-ghost use Rattle.tree_polynomials.specs.Answers.{fault_of};
+ghost use Rattle.term_faults.specs.Faults.{fault_of};
 
+use crate::limits::LimitName;
 use ring_laws::RingFault;
 use thiserror::Error;
-
-/// A count that has a limit.
-#[derive(Clone, Copy, Debug, PartialEq, Eq, Drop)]
-pub enum LimitName {
-    /// The factorials and denominators of a term, by their powers, before cancelling.
-    Factors,
-    /// The slopes of a form.
-    Slope,
-    /// The offset of a form.
-    Offset,
-    /// A constant exponent, or the constant part of one.
-    Exponent,
-    /// The order of a recurrence.
-    Order,
-    /// The degree of a polynomial.
-    Degree,
-    /// The shifts at which forms match.
-    MatchShifts,
-    /// The columns of a system of equations.
-    Columns,
-    /// The pairs of forms that are tried.
-    HyperPairs,
-    /// The length of a side of a box.
-    BoxSide,
-}
 
 /// Why a tree stands for no term.
 #[derive(Clone, Copy, Debug, PartialEq, Eq, Drop, Error)]

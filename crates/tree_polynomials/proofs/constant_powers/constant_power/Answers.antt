@@ -10,7 +10,7 @@ use Rattle.term_classes.proofs.FractionPowers.{fraction_same}
 use Rattle.tree_polynomials.specs.Answers.{Answers}
 use Rattle.tree_polynomials.specs.Views.{found, fraction_value}
 use Rattle.tree_polynomials.proofs.ConstantSteps.{negative_power}
-use Rattle.tree_polynomials.proofs.constants.constant_power.Goals as goal
+use Rattle.tree_polynomials.proofs.constant_powers.constant_power.Goals as goal
 
 -- a negative power of what isn't 0
 pub returns : goal.returns
