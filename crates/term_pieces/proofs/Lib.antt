@@ -1,0 +1,14 @@
+mod KnownPieces
+pub mod Factorials
+pub mod FormValues
+pub mod Splits
+pub mod TimesPowers
+pub mod ItemShifts
+pub mod FactorialItems
+pub mod OverItems
+pub mod ShiftedDenominators
+pub mod OverSplits
+pub mod ProductValues
+pub mod NumberSplits
+pub mod ListSplits
+pub mod SharedValues

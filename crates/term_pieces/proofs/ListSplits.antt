@@ -1,0 +1,115 @@
+-- The factorials and denominators of a term split, list by list.
+use Rattle.std.proofs.Common.{◌≡◌, ℕ, ◌+◌, ◌≤◌, Bool, true, false, List, [], ◌∷◌, ◌++◌, refl, ap, sym, ◌∙◌, subst, arith}
+use Rattle.std.proofs.lemmas.Int.{ints}
+use Rattle.std.specs.Prelude.{ℤ, pos, negsuc, ◌+ℤ◌, ◌-ℤ◌, ◌*ℤ◌, ◌≤ℤ◌, cond}
+use Rattle.hypergeometric.specs.Fraction.{Fraction, ◌≈◌, fraction_product, natural_power}
+use Rattle.hypergeometric.specs.LinearForm.{LinearForm, Factor, form_value, forms_value, factorial_value, inverse_factorial_value, product_over}
+use Rattle.hypergeometric.specs.ProperTerm.{NoneNegative, NoneZero}
+use Rattle.lin_form.specs.FactorLists.{same_form, factor_with, with_factor}
+use Rattle.lin_form.proofs.Lookups.{same_form_found}
+use Rattle.term_classes.proofs.FractionPowers.{product_assoc, product_one, power_of_sum}
+use Rattle.term_classes.proofs.NonzeroPowers.{product_moved}
+use Rattle.term_classes.proofs.SameValues.{zero_times}
+use Rattle.term_pieces.specs.Products.{form_plus, at_later_n}
+use Rattle.term_pieces.specs.Pieces.{negative_part, least_of, from_each, above_least, below_greatest, rising_up, falling_up, rising_down, falling_down, counted_but, cleared_over, later_over, kept_over, carrier_up, carrier_down, gathered_forms}
+use Rattle.term_pieces.proofs.FactorialItems.{argument_splits, lower_splits}
+use Rattle.term_pieces.proofs.FormValues.{plus_value, later_n_value, joined_value}
+use Rattle.term_pieces.proofs.OverItems.{inverse_of, inverses}
+use Rattle.term_pieces.proofs.OverSplits.{over_splits}
+use Rattle.term_pieces.proofs.ShiftedDenominators.{inverses_joined}
+use Rattle.term_pieces.proofs.Splits.{Splits, times_common, splits_product, splits_one}
+
+-- the same with other names of the numbers, and of the carrier's values
+splits_same : (order : ℕ) (v : ℕ → Fraction) (t t' : ℕ → ℤ) (h h' m m' : Fraction) (r r' q q' : ℤ) → ((j : ℕ) → t j ≡ t' j) → h ≡ h' → m ≡ m'
+    → r ≡ r' → q ≡ q' → Splits order v t h m r q → Splits order v t' h' m' r' q'
+splits_same order v t t' h h' m m' r r' q q' te he me re qe s = record {
+  common = s.common;
+  tops = λ j l. subst (λ z. v j ≈ times_common z s.common) (te j) (s.tops j l);
+  carrier_here = subst (λ z. z ≈ times_common r' s.common) he (subst (λ z. h ≈ times_common z s.common) re s.carrier_here);
+  carrier_next = subst (λ z. z ≈ times_common q' s.common) me (subst (λ z. m ≈ times_common z s.common) qe s.carrier_next);
+}
+
+-- the least of a form is its value at n or at n + J
+least_is : (f : LinearForm) (order : ℕ) (n k : ℤ) → pos 0 ≤ℤ form_value f n k → pos 0 ≤ℤ form_value f (n +ℤ pos order) k
+    → pos 0 ≤ℤ form_value (least_of order f) n k
+least_is f order n k first last = by f.n_slope refl
+  where
+    there : form_value (at_later_n f (pos order)) n k ≡ form_value f (n +ℤ pos order) k
+    there = later_n_value f (pos order) n k
+
+    by : (s : ℤ) → f.n_slope ≡ s → pos 0 ≤ℤ form_value (form_plus f (negative_part s *ℤ pos order)) n k
+    by (pos m) e =
+        let here : form_value (form_plus f (pos 0 *ℤ pos order)) n k ≡ form_value f n k +ℤ pos 0 *ℤ pos order = plus_value f (pos 0 *ℤ pos order) n k in
+        let nothing : pos 0 *ℤ pos order ≡ pos 0 = zero_times (pos order) in
+        omega (arith, ints, here, nothing, first)
+    by (negsuc m) e =
+        let same : form_value (form_plus f (negsuc m *ℤ pos order)) n k ≡ form_value (at_later_n f (pos order)) n k =
+        ap (λ s. form_value (form_plus f (s *ℤ pos order)) n k) (sym e) in
+        omega (arith, ints, same, there, last)
+
+module _ (order : ℕ) (n k : ℤ) where
+  pub up_splits : (xs : List Factor) → NoneNegative xs n k → NoneNegative xs (n +ℤ pos order) k
+      → Splits order (λ j. product_over factorial_value xs (n +ℤ pos j) k) (λ j. forms_value (from_each (above_least order j) xs) n k)
+      (product_over factorial_value (carrier_up order xs) n k) (product_over factorial_value (carrier_up order xs) n (k +ℤ pos 1))
+      (forms_value (from_each (falling_up order) xs) n (k -ℤ pos 1)) (forms_value (from_each (rising_up order) xs) n k)
+  up_splits [] first last = splits_one order
+  up_splits (x ∷ xs) (f, fs) (l, ls) =
+      splits_same order _ _ (λ j. forms_value (above_least order j x ++ from_each (above_least order j) xs) n k) _ _ _ _ _
+      (forms_value (falling_up order x ++ from_each (falling_up order) xs) n (k -ℤ pos 1)) _ (forms_value (rising_up order x ++ from_each (rising_up order) xs) n k)
+      (λ j. sym (joined_value (above_least order j x) (from_each (above_least order j) xs) n k)) refl refl
+      (sym (joined_value (falling_up order x) (from_each (falling_up order) xs) n (k -ℤ pos 1))) (sym (joined_value (rising_up order x) (from_each (rising_up order) xs) n k))
+      (splits_product order _ _ _ _ _ _ _ _ _ _ _ _ (argument_splits order x n k (least_is x.form order n k f l)) (up_splits xs fs ls))
+
+  pub down_splits : (xs : List Factor)
+      → Splits order (λ j. product_over inverse_factorial_value xs (n +ℤ pos j) k) (λ j. forms_value (from_each (below_greatest order j) xs) n k)
+      (product_over inverse_factorial_value (carrier_down order xs) n k) (product_over inverse_factorial_value (carrier_down order xs) n (k +ℤ pos 1))
+      (forms_value (from_each (rising_down order) xs) n (k -ℤ pos 1)) (forms_value (from_each (falling_down order) xs) n k)
+  down_splits [] = splits_one order
+  down_splits (x ∷ xs) =
+      splits_same order _ _ (λ j. forms_value (below_greatest order j x ++ from_each (below_greatest order j) xs) n k) _ _ _ _ _
+      (forms_value (rising_down order x ++ from_each (rising_down order) xs) n (k -ℤ pos 1)) _ (forms_value (falling_down order x ++ from_each (falling_down order) xs) n k)
+      (λ j. sym (joined_value (below_greatest order j x) (from_each (below_greatest order j) xs) n k)) refl refl
+      (sym (joined_value (rising_down order x) (from_each (rising_down order) xs) n (k -ℤ pos 1))) (sym (joined_value (falling_down order x) (from_each (falling_down order) xs) n k))
+      (splits_product order _ _ _ _ _ _ _ _ _ _ _ _ (lower_splits order x n k) (down_splits xs))
+
+  pub over_lists : (xs : List Factor) → ((j : ℕ) → j ≤ order → NoneZero xs (n +ℤ pos j) k)
+      → Splits order (λ j. inverses xs (n +ℤ pos j) k) (λ j. forms_value (from_each (counted_but order j) xs) n k)
+      (inverses (from_each (kept_over order) xs) n k) (inverses (from_each (kept_over order) xs) n (k +ℤ pos 1))
+      (forms_value (from_each (later_over order) xs) n (k -ℤ pos 1)) (forms_value (from_each (cleared_over order) xs) n k)
+  over_lists [] some = splits_one order
+  over_lists (x ∷ xs) some =
+      splits_same order _ _ (λ j. forms_value (counted_but order j x ++ from_each (counted_but order j) xs) n k)
+      _ (inverses (kept_over order x ++ from_each (kept_over order) xs) n k) _ (inverses (kept_over order x ++ from_each (kept_over order) xs) n (k +ℤ pos 1)) _
+      (forms_value (later_over order x ++ from_each (later_over order) xs) n (k -ℤ pos 1)) _ (forms_value (cleared_over order x ++ from_each (cleared_over order) xs) n k)
+      (λ j. sym (joined_value (counted_but order j x) (from_each (counted_but order j) xs) n k))
+      (sym (inverses_joined (kept_over order x) (from_each (kept_over order) xs) n k)) (sym (inverses_joined (kept_over order x) (from_each (kept_over order) xs) n (k +ℤ pos 1)))
+      (sym (joined_value (later_over order x) (from_each (later_over order) xs) n (k -ℤ pos 1))) (sym (joined_value (cleared_over order x) (from_each (cleared_over order) xs) n k))
+      (splits_product order _ _ _ _ _ _ _ _ _ _ _ _ (over_splits order x n k (λ j l. (some j l).0)) (over_lists xs (λ j l. (some j l).1)))
+
+-- one more form on a list, and all forms gathered
+grown_value : (f : LinearForm) (p : ℕ) (xs : List Factor) (n k : ℤ)
+    → inverses (with_factor f p xs) n k ≡ fraction_product (natural_power (inverse_of (form_value f n k)) p) (inverses xs n k)
+grown_value f p [] n k = refl
+grown_value f p (x ∷ xs) n k = by (same_form f x.form) refl (grown_value f p xs n k)
+  where
+    by : (b : Bool) → same_form f x.form ≡ b
+        → inverses (with_factor f p xs) n k ≡ fraction_product (natural_power (inverse_of (form_value f n k)) p) (inverses xs n k)
+        → inverses (cond b (factor_with x.form (x.power + p) ∷ xs) (x ∷ with_factor f p xs)) n k
+        ≡ fraction_product (natural_power (inverse_of (form_value f n k)) p) (inverses (x ∷ xs) n k)
+    by true e h =
+        let own = natural_power (inverse_of (form_value x.form n k)) x.power in
+        let more = natural_power (inverse_of (form_value x.form n k)) p in
+        ap (λ t. fraction_product t (inverses xs n k)) (power_of_sum (inverse_of (form_value x.form n k)) x.power p)
+        ∙ product_assoc own more (inverses xs n k) ∙ product_moved own more (inverses xs n k)
+        ∙ ap (λ g. fraction_product (natural_power (inverse_of (form_value g n k)) p) (inverses (x ∷ xs) n k)) (sym (same_form_found f x.form e))
+    by false e h =
+        let own = natural_power (inverse_of (form_value x.form n k)) x.power in
+        ap (fraction_product own) h ∙ product_moved own (natural_power (inverse_of (form_value f n k)) p) (inverses xs n k)
+
+pub gathered_value : (done xs : List Factor) (n k : ℤ) → inverses (gathered_forms done xs) n k ≡ fraction_product (inverses done n k) (inverses xs n k)
+gathered_value done [] n k = sym (product_one (inverses done n k))
+gathered_value done (x ∷ xs) n k =
+    gathered_value (with_factor x.form x.power done) xs n k
+    ∙ ap (λ t. fraction_product t (inverses xs n k)) (grown_value x.form x.power done n k)
+    ∙ product_assoc (natural_power (inverse_of (form_value x.form n k)) x.power) (inverses done n k) (inverses xs n k)
+    ∙ product_moved (natural_power (inverse_of (form_value x.form n k)) x.power) (inverses done n k) (inverses xs n k)

@@ -1,0 +1,18 @@
+//! The pieces of a term at an order: the polynomials, the quotient and the carrier on which creative telescoping rests.
+//!
+//! `specs/` has the definitions, `proofs/` the laws. The function here does nothing: its contract is a law.
+//! Read `specs/Products.antt` (products of forms that follow one another), `specs/Pieces.antt`, then `specs/PieceValues.antt` (what the pieces
+//! are good for).
+#![tactic(auto)]
+
+ghost use Rattle.std.specs.Prelude.{◌≤◌, ℕ, ℤ, pos, ◌+ℤ◌};
+ghost use Rattle.hypergeometric.specs.ProperTerm.{ProperTerm, HasFractions, IsDefinedAt};
+ghost use Rattle.term_pieces.specs.Pieces.{Pieces, ArePiecesOf};
+ghost use Rattle.term_pieces.specs.PieceValues.{ShareValue};
+
+/// Where a term is defined at n, .., n + J, its pieces at the order J share one value there: the term at n + j is p_j times it, and the
+/// carrier is r0 at k - 1 times it at k, and q0 times it at k + 1 (A=B chapter 6).
+pub fn pieces_share_a_value()
+    ensures shares { (f : ProperTerm) (pieces : Pieces) (order : ℕ) (n k : ℤ) → HasFractions f → ArePiecesOf pieces f order
+        → ((j : ℕ) → j ≤ order → IsDefinedAt f (n +ℤ pos j) k) → ShareValue f pieces order n k }
+{}
