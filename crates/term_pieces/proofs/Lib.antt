@@ -12,3 +12,4 @@ pub mod ProductValues
 pub mod NumberSplits
 pub mod ListSplits
 pub mod SharedValues
+pub mod OneList

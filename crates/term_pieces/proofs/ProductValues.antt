@@ -137,7 +137,7 @@ before_itself f (inl h) = omega (arith, ints, h)
 before_itself f (inr (inl h)) = omega (arith, ints, h.1)
 before_itself f (inr (inr h)) = omega (arith, ints, h.2)
 
-not_among : (f : LinearForm) (ys : List Factor) → AllByRecursion (λ y. IsBefore f y.form) ys → power_of f ys ≡ 0
+pub not_among : (f : LinearForm) (ys : List Factor) → AllByRecursion (λ y. IsBefore f y.form) ys → power_of f ys ≡ 0
 not_among f [] h = refl
 not_among f (y ∷ ys) (h, hs) = by (same_form f y.form) refl (not_among f ys hs)
   where
