@@ -1,6 +1,6 @@
 -- Why no form of q is a form of r at an earlier k: where a form is left in q, all of r that matches it at any shift was taken.
 use Rattle.std.proofs.Common.{◌≡◌, ◌≢◌, ℕ, zero, suc, ◌+◌, ◌≤◌, Bool, true, false, List, [], ◌∷◌, refl, ap, sym, ◌∙◌, arith, ◌⊎◌, inl, inr}
-use Rattle.std.proofs.lemmas.Bool.{eqb-true, eq-eqb, false≢true}
+use Rattle.std.proofs.lemmas.Bool.{cases_eq, eq-eqb, false≢true}
 use Rattle.std.specs.Prelude.{pos, cond, nat_eq}
 use Rattle.hypergeometric.specs.LinearForm.{LinearForm, FactorList}
 use Rattle.lin_form.specs.FactorLists.{same_form}
@@ -9,20 +9,6 @@ use Rattle.term_pieces.specs.Products.{at_later_k}
 use Rattle.normal_forms.specs.NormalForm.{Match, Normal, at_earlier_k, sum_of_first, Occurs, form_above, form_below, matched, power_within, IsNormalFormOf, HasNoMatch}
 use Rattle.normal_forms.proofs.EarlierForms.{back_again, and_back}
 use Rattle.normal_forms.proofs.Sums.{without_at, zero_sum, less_at_one}
-
-zero_or_not : (x : ℕ) → (x ≡ 0) ⊎ (x ≢ 0)
-zero_or_not zero = inl refl
-zero_or_not (suc x) = inr (λ e. omega (arith, e))
-
-same_or_not : (x y : ℕ) → (x ≡ y) ⊎ (x ≢ y)
-same_or_not x y = by (nat_eq x y) refl
-  where
-    by : (b : Bool) → nat_eq x y ≡ b → (x ≡ y) ⊎ (x ≢ y)
-    by true e = inl (eqb-true x y e)
-    by false e = inr (λ p. false≢true (sym e ∙ ap (λ z. nat_eq z y) p ∙ itself y))
-      where
-        itself : (y : ℕ) → nat_eq y y ≡ true
-        itself y = eq-eqb y y refl
 
 -- what is said of all numbers that aren't 0 bounds their sum
 pub counted : (view : Match → LinearForm) (s : LinearForm) (ms : List Match) (g : ℕ → ℕ) → ((h : ℕ) → g h ≢ 0 → Occurs view s h (g h) ms)
@@ -35,7 +21,7 @@ counted view s [] g all h =
     nothing zero never = refl
     nothing (suc x) never = absurd (never (λ e. omega (arith, e)))
 counted view s (m ∷ ms) g all h =
-    by (same_form s (view m)) refl (same_or_not (g m.shift) m.power) (λ g' rest. counted view s ms g' rest h)
+    by (same_form s (view m)) refl (cases_eq (g m.shift) m.power) (λ g' rest. counted view s ms g' rest h)
   where
     -- where the first isn't meant, the rest has it
     later : (i : ℕ) → ¬ ((view m ≡ s) × (m.shift ≡ i) × (m.power ≡ g i)) → g i ≢ 0 → Occurs view s i (g i) ms

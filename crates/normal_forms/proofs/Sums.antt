@@ -1,6 +1,6 @@
 -- Sums of the first numbers of a list, and those that are left where one number is 0.
-use Rattle.std.proofs.Common.{◌≡◌, ◌≢◌, ℕ, zero, suc, ◌+◌, ◌≤◌, ◌<◌, Bool, true, false, refl, ap, arith}
-use Rattle.std.proofs.lemmas.Bool.{eqb-true}
+use Rattle.std.proofs.Common.{◌≡◌, ℕ, zero, suc, ◌+◌, ◌≤◌, ◌<◌, Bool, true, false, refl, ap, arith}
+use Rattle.std.proofs.lemmas.Bool.{eqb-true, ne_eqb}
 use Rattle.std.specs.Prelude.{cond, nat_eq}
 use Rattle.normal_forms.specs.NormalForm.{sum_of_first}
 
@@ -12,18 +12,11 @@ pub zero_sum : (g : ℕ → ℕ) → ((h : ℕ) → g h ≡ 0) → (h : ℕ) →
 zero_sum g z zero = refl
 zero_sum g z (suc h) = omega (arith, zero_sum g z h, z h)
 
-other_place : (i h : ℕ) → h ≢ i → nat_eq h i ≡ false
-other_place i h ne = by (nat_eq h i) refl
-  where
-    by : (b : Bool) → nat_eq h i ≡ b → b ≡ false
-    by true e = absurd (ne (eqb-true h i e))
-    by false e = refl
-
 -- before that place nothing changes
 before_place : (i : ℕ) (g : ℕ → ℕ) (h : ℕ) → h ≤ i → sum_of_first g h ≡ sum_of_first (without_at i g) h
 before_place i g zero l = refl
 before_place i g (suc h) l =
-    let same : without_at i g h ≡ g h = ap (λ b. cond b 0 (g h)) (other_place i h (omega (arith, l))) in
+    let same : without_at i g h ≡ g h = ap (λ b. cond b 0 (g h)) (ne_eqb h i (omega (arith, l))) in
     let rest = before_place i g h (omega (arith, l)) in
     omega (arith, same, rest)
 
