@@ -19,11 +19,12 @@ use Rattle.cert_text.specs.Readable.{Contents}
 use Rattle.cert_checker.specs.Checks.{next_y, difference, multiple, HasEquation, HasIdentity, AreInBounds}
 use Rattle.cert_checker.proofs.Identities.{equation_of}
 use Rattle.cert_checker.proofs.SmallCoefficients.{number_at, AreWithin, magnitude_at, sum_at, trimmed_at, scaled_within}
-use Rattle.cert_checker.proofs.ShiftedPolynomials.{shift_passes, few_shifted}
+use Rattle.cert_checker.proofs.ShiftedPolynomials.{few_shifted}
+use Rattle.poly_laws.proofs.StepMeanings.{shift_passes}
 
 module _ (d : Contents) (poly : IsPolynomial 1 d.poly) (y : IsPolynomial 1 d.y) where
   next_passes : IsTrue ((level 1).passes (next_y d))
-  next_passes = shift_passes (level 0) (level_laws 0).closed (pos 1) (d.y, y.passes)
+  next_passes = shift_passes (level 0) (level_laws 0) (pos 1) (d.y, y.passes)
 
   -- where the identity holds at each whole point, both sides are one polynomial
   pub equation_of_identity : HasIdentity d → HasEquation d

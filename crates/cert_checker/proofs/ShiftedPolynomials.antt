@@ -1,36 +1,12 @@
--- The shift of a polynomial by 1 is a polynomial, and its coefficients are small where those of the polynomial are few and small.
-use Rattle.std.proofs.Common.{◌≡◌, ℕ, zero, suc, ◌+◌, ◌*◌, ◌≤◌, ◌^◌, List, [], ◌∷◌, length, map, refl, ap, ◌∙◌, arith}
+-- The coefficients of the shift of a polynomial by 1 are small where those of the polynomial are few and small.
+use Rattle.std.proofs.Common.{◌≡◌, ℕ, zero, suc, ◌+◌, ◌*◌, ◌≤◌, ◌^◌, List, [], ◌∷◌, length, map, arith}
 use Rattle.std.proofs.lemmas.Int.{ints}
-use Rattle.std.specs.Prelude.{ℤ, pos, ◌+ℤ◌, unsigned_abs, IsTrue}
+use Rattle.std.specs.Prelude.{ℤ, pos, ◌+ℤ◌, unsigned_abs}
 use Rattle.ring_laws.specs.Meaning.{Meaning, number}
-use Rattle.ring_laws.specs.Algebra.{Algebra, Passing, Closed, within}
 use Rattle.ring_laws.specs.Wholes.{whole_algebra, number_of}
-use Rattle.poly_laws.specs.Lists.{list_sum, trimmed}
-use Rattle.poly_laws.specs.PolyAlgebra.{poly_algebra}
-use Rattle.poly_laws.specs.Shift.{raised_by, list_shift, poly_shift}
-use Rattle.poly_laws.proofs.Coefficients.{meanings_of, meanings-sum, meanings-scale, meanings-trimmed, coefficients, meanings-coefficients, trimmed_passes}
+use Rattle.poly_laws.specs.Lists.{list_sum}
+use Rattle.poly_laws.specs.Shift.{raised_by, list_shift}
 use Rattle.cert_checker.proofs.SmallCoefficients.{number_at, AreWithin, sum_at, once_at}
-
-module _ (a : Algebra) (c : Closed a) where
-  shifted_meanings : (t : Passing a) (xs : List (Passing a))
-      → meanings_of a c (list_shift (within a c) t xs) ≡ list_shift a.ops t.0 (meanings_of a c xs)
-  shifted_meanings t [] = refl
-  shifted_meanings t (x ∷ xs) =
-      let o = within a c in
-      let f = list_shift o t xs in
-      meanings-sum a c (x ∷ []) (list_sum o (map (o.product t) f) (o.nought ∷ f))
-      ∙ ap (list_sum a.ops (x.0 ∷ [])) (meanings-sum a c (map (o.product t) f) (o.nought ∷ f)
-      ∙ (λ i. list_sum a.ops (meanings-scale a c t f i) (a.ops.nought ∷ meanings_of a c f)))
-      ∙ ap (λ s. list_sum a.ops (x.0 ∷ []) (list_sum a.ops (map (a.ops.product t.0) s) (a.ops.nought ∷ s))) (shifted_meanings t xs)
-
-  -- the shift of a polynomial belongs to the polynomials
-  pub shift_passes : (w : ℤ) (x : Passing (poly_algebra a)) → IsTrue ((poly_algebra a).passes (poly_shift a.ops w x.0))
-  shift_passes w x =
-      let o = within a c in
-      trimmed_passes a c (list_shift o (o.whole w) (coefficients a c x)) _
-      (meanings-trimmed a c (list_shift o (o.whole w) (coefficients a c x))
-      ∙ ap (trimmed a.ops) (shifted_meanings (o.whole w) (coefficients a c x)
-      ∙ ap (list_shift a.ops (a.ops.whole w)) (meanings-coefficients a c x)))
 
 -- what is doubled so often
 abbrev doubled : ℕ → ℕ → ℕ

@@ -9,3 +9,4 @@ pub mod TreeValue
 pub mod Claim
 pub mod Telescopes
 pub mod PlainTerm
+pub mod NaturalRange

@@ -14,7 +14,7 @@ use Rattle.kernel_laws.specs.Kernels.{EndsAt}
 use Rattle.kernel_laws.specs.Pivots.{IsPivotColumn, rows_of}
 use Rattle.kernel_laws.specs.Reduction.{Reduction, ReductionLaws, Splits, Reduces, bare}
 use Rattle.kernel_laws.specs.BackSubstitution.{zeros, unit_vector, times_vector, Absorbed, BackStep, BackRun, begin, step}
-use Rattle.kernel_laws.proofs.Rings.{solvable, read_nought, read_unit}
+use Rattle.poly_laws.proofs.Rings.{solvable, read_nought, read_unit}
 use Rattle.kernel_laws.proofs.Totals.{spike, spike_here, spike_not}
 use Rattle.kernel_laws.proofs.Kernels.{not_product}
 use Rattle.kernel_laws.proofs.Echelon.{StartsAt, Echelon, done, free, pivot_row, within as ends_within}

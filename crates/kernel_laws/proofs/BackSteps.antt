@@ -10,7 +10,7 @@ use Rattle.ring_solver.proofs.Read.{reading, ring}
 use Rattle.ring_solver.proofs.Linear.{from_all, by}
 use Rattle.kernel_laws.specs.Kernels.{EndsAt}
 use Rattle.kernel_laws.specs.Pivots.{rows_of}
-use Rattle.kernel_laws.proofs.Rings.{solvable, read_nought}
+use Rattle.poly_laws.proofs.Rings.{solvable, read_nought}
 use Rattle.kernel_laws.proofs.Totals.{total_nought, total_scale, dot_vectors, dot_spike, spike, spike_not}
 use Rattle.kernel_laws.proofs.Kernels.{not_product, other_factor}
 use Rattle.kernel_laws.proofs.Echelon.{StartsAt, Echelon, zero_before, within}

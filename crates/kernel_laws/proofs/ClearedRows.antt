@@ -11,7 +11,7 @@ use Rattle.kernel_laws.specs.Rows.{entry_at}
 use Rattle.kernel_laws.specs.RowSteps.{cross, Divided, divided, kept, Quotients}
 use Rattle.kernel_laws.specs.Reduction.{Reduction, ReductionLaws, Reduces, bare}
 use Rattle.kernel_laws.specs.Elimination.{crossed_at, ClearedRow, Cleared, stays, changes}
-use Rattle.kernel_laws.proofs.Rings.{solvable, read_nought, read_unit}
+use Rattle.poly_laws.proofs.Rings.{solvable, read_nought, read_unit}
 use Rattle.kernel_laws.proofs.Kernels.{not_product, other_factor}
 use Rattle.kernel_laws.proofs.RowSteps.{Turned}
 use Rattle.kernel_laws.proofs.Stairs.{Clears}

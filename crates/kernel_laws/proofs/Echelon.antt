@@ -9,7 +9,7 @@ use Rattle.poly_laws.proofs.OneQuotient.{NoDivisors}
 use Rattle.ring_solver.proofs.Read.{reading, ring}
 use Rattle.kernel_laws.specs.Kernels.{EndsAt, Ends, Counted, none, with, without}
 use Rattle.kernel_laws.specs.Pivots.{IsPivotColumn, rows_of}
-use Rattle.kernel_laws.proofs.Rings.{solvable, read_nought}
+use Rattle.poly_laws.proofs.Rings.{solvable, read_nought}
 use Rattle.kernel_laws.proofs.Totals.{total_one, spike, spike_here, spike_not, dot_spike, dot_vectors}
 use Rattle.kernel_laws.proofs.Kernels.{first_of, rest_of, combination, not_product}
 

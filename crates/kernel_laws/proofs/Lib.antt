@@ -1,4 +1,3 @@
-pub mod Rings
 pub mod Totals
 pub mod Kernels
 pub mod Echelon

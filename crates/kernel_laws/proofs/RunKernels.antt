@@ -11,7 +11,7 @@ use Rattle.kernel_laws.specs.Reduction.{Reduction, ReductionLaws, bare}
 use Rattle.kernel_laws.specs.Elimination.{Run}
 use Rattle.kernel_laws.specs.Answers.{Vector, meant, NoneEnds, AllPivots}
 use Rattle.kernel_laws.proofs.Echelon.{Echelon, none_at_pivots, count}
-use Rattle.kernel_laws.proofs.Spanning.{zero_or_not}
+use Rattle.poly_laws.proofs.Trimming.{zero_or_not}
 use Rattle.kernel_laws.proofs.Stairs.{SameKernel, echelon, all_same}
 use Rattle.kernel_laws.proofs.Belonging.{kernel_down, kernel_up, ends_up, ends_down}
 use Rattle.kernel_laws.proofs.ClearedRows.{domain}

@@ -11,7 +11,7 @@ use Rattle.poly_laws.proofs.ListLaws.{product_nought, nought_product}
 use Rattle.kernel_laws.specs.Rows.{entry_at, dot}
 use Rattle.kernel_laws.specs.Reduction.{Reduction, ReductionLaws, bare}
 use Rattle.kernel_laws.specs.Elimination.{Cleared, Chosen, IsFree, Run, begin, pass, climb}
-use Rattle.kernel_laws.proofs.Rings.{solvable, read_nought, read_unit}
+use Rattle.poly_laws.proofs.Rings.{solvable, read_nought, read_unit}
 use Rattle.kernel_laws.proofs.Totals.{total_nought}
 use Rattle.kernel_laws.proofs.Kernels.{first_of, rest_of, All-left, All-right}
 use Rattle.kernel_laws.proofs.RowSteps.{Turned, rows_on, rows_back}

@@ -1,5 +1,5 @@
 -- Vectors, one for each column at which a vector of the kernel ends, span the kernel.
-use Rattle.std.proofs.Common.{◌≡◌, ℕ, zero, suc, ◌<◌, ◌≤◌, Bool, true, false, IsTrue, List, [], ◌∷◌, length, get_or, refl, ap, sym, ◌∙◌, subst, arith, ◌⊎◌, inl, inr, ⊎_elim}
+use Rattle.std.proofs.Common.{◌≡◌, ℕ, zero, suc, ◌<◌, ◌≤◌, List, [], ◌∷◌, length, get_or, refl, ap, sym, ◌∙◌, subst, arith, ⊎_elim}
 use Rattle.std.proofs.lemmas.Bool.{cases_lt}
 use Rattle.ring_laws.specs.Algebra.{Ops, RingLaws}
 use Rattle.kernel_laws.specs.Rows.{InKernel}
@@ -8,7 +8,8 @@ use Rattle.poly_laws.proofs.OneQuotient.{NoDivisors}
 use Rattle.ring_solver.proofs.Read.{reading, ring}
 use Rattle.ring_solver.proofs.Linear.{from_all, by}
 use Rattle.kernel_laws.specs.Kernels.{EndsAt, Ends, combined, Spanned}
-use Rattle.kernel_laws.proofs.Rings.{solvable, read_nought, read_unit}
+use Rattle.poly_laws.proofs.Rings.{solvable, read_nought, read_unit}
+use Rattle.poly_laws.proofs.Trimming.{zero_or_not}
 use Rattle.kernel_laws.proofs.Totals.{spike}
 use Rattle.kernel_laws.proofs.Kernels.{combination, not_product}
 
@@ -64,14 +65,6 @@ module _ {A : Type 0} (o : Ops A) (l : RingLaws o) where
       from_all (solvable o l) (by (solvable o l) o.unit h ∷ [])
       (ring (solvable o l) (f ∷ p ∷ e ∷ w ∷ v ∷ t ∷ []) (search (reading, read_unit o l) depth 40 fits 20000) refl)
 
-  bool_cases : (b : Bool) → IsTrue b ⊎ ¬ (IsTrue b)
-  bool_cases true = inl refl
-  bool_cases false = inr (λ h. cc)
-
-  -- whether a meaning is zero
-  pub zero_or_not : (x : A) → (x ≡ o.nought) ⊎ ¬ (x ≡ o.nought)
-  zero_or_not x = ⊎_elim (λ h. inl ((l.is_nought x).0 h)) (λ m. inr (λ e. m ((l.is_nought x).1 e))) (bool_cases (o.is_nought x))
-
   module _ (d : NoDivisors o) (u : ¬ (o.unit ≡ o.nought)) (n : ℕ) (rows : List (List A)) (vs : List (ℕ → A)) (each : Each n rows vs) where
     further : (w : ℕ → A) (m : ℕ) (i : ℕ) → i < length vs → EndsAt o n (vector_at vs i) m
         → Spanned o n vs (reduced (vector_at vs i m) (w m) w (vector_at vs i)) → Spanned o n vs w
@@ -106,7 +99,7 @@ module _ {A : Type 0} (o : Ops A) (l : RingLaws o) where
         (λ k c q. ⊎_elim
         (λ t. cc (z k (omega arith) q, v.3.later k t q, product_nought o l p, product_nought o l (o.neg (w m)), l.nought_sum o.nought))
         (λ t. subst (λ x. reduced p (w m) w (vector_at vs v.0) x ≡ o.nought) (omega (arith, c, t)) (cancels p (w m))) (cases_lt m k))))
-        (zero_or_not (w m))
+        (zero_or_not o l (w m))
 
     -- every vector of the kernel has a multiple, by a factor that isn't zero, that is a sum of multiples of the vectors
     pub spans : (w : ℕ → A) → InKernel o n rows w → Spanned o n vs w

@@ -5,7 +5,7 @@ use Rattle.kernel_laws.specs.Rows.{dot, entry_at, total}
 use Rattle.poly_laws.proofs.ListLaws.{sum_nought, product_nought}
 use Rattle.ring_solver.specs.Rings.{CommRing}
 use Rattle.ring_solver.proofs.Read.{reading, ring}
-use Rattle.kernel_laws.proofs.Rings.{solvable, read_nought}
+use Rattle.poly_laws.proofs.Rings.{solvable, read_nought}
 
 -- one at column j, and zero elsewhere
 abbrev pub spike : {A : Type 0} → Ops A → ℕ → ℕ → A

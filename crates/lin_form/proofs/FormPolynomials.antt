@@ -1,6 +1,6 @@
 -- Forms, and products of forms, as polynomials in k over those in n, and the bounds of their magnitudes.
 use Rattle.std.specs.Prelude.{◌≡◌, IsTrue, List, [], ◌∷◌, refl}
-use Rattle.std.proofs.Common.{ap, ◌∙◌}
+use Rattle.std.proofs.Common.{ap, ◌∙◌, subst}
 use Rattle.ring_laws.specs.Meaning.{number, listed}
 use Rattle.ring_laws.specs.Algebra.{Ops, Laws, Passing, within}
 use Rattle.ring_laws.specs.WholeLaws.{whole_laws}
@@ -8,8 +8,8 @@ use Rattle.poly_laws.specs.Lists.{trimmed}
 use Rattle.poly_laws.specs.Values.{level}
 use Rattle.poly_laws.proofs.Coefficients.{meanings-trimmed, trimmed_passes}
 use Rattle.poly_laws.proofs.Equal.{level_laws}
-use Rattle.hypergeometric.specs.LinearForm.{LinearForm, Factor}
-use Rattle.lin_form.specs.Products.{power_in, nonzero_magnitude, form_polynomial, forms_polynomial, forms_counterpart, IsBound}
+use Rattle.hypergeometric.specs.LinearForm.{LinearForm, Factor, FactorList}
+use Rattle.lin_form.specs.Products.{power_in, nonzero_magnitude, form_polynomial, forms_polynomial, forms_counterpart, list_polynomial, IsBound}
 use Rattle.lin_form.proofs.Bounds.{bounded_unit, bounded_product, bounded_power, bounded_self}
 use Rattle.lin_form.proofs.Squaring.{power_first, magnitude_first}
 
@@ -53,6 +53,12 @@ forms_in (x ∷ xs) = o.product (factor_in x) (forms_in xs)
 pub forms_first : (xs : List Factor) → (forms_in xs).0 ≡ forms_polynomial xs
 forms_first [] = refl
 forms_first (x ∷ xs) = λ i. (level 2).ops.product (power_first (level 2) laws (form_in x.form) x.power i) (forms_first xs i)
+
+-- the polynomial of a list belongs to the polynomials
+pub list_passes : (l : FactorList) → IsTrue ((level 2).passes (list_polynomial l))
+list_passes l =
+    subst (λ m. IsTrue ((level 2).passes ((level 2).ops.product ((level 2).ops.whole l.scale) m))) (forms_first l.factors)
+    (o.product (o.whole l.scale) (forms_in l.factors)).1
 
 abbrev pub bound_in : Factor → Passing (level 2)
 bound_in x = power_in o (nonzero_magnitude o (form_in x.form)) x.power

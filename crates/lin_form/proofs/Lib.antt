@@ -3,7 +3,6 @@ pub mod Shifts
 pub mod Signs
 pub mod PrimitiveForms
 pub mod OnlyPrimitive
-pub mod Rings
 pub mod Powers
 pub mod Bounds
 pub mod Lookups

@@ -4,7 +4,7 @@ use Rattle.std.proofs.Common.{ap, ◌∙◌, arith}
 use Rattle.ring_laws.specs.Algebra.{Ops, RingLaws}
 use Rattle.ring_solver.proofs.Read.{ring, reading}
 use Rattle.lin_form.specs.Products.{power_in}
-use Rattle.lin_form.proofs.Rings.{solvable}
+use Rattle.poly_laws.proofs.Rings.{solvable}
 
 module _ {A : Type 0} (o : Ops A) (l : RingLaws o) where
   pub product_unit : (x : A) → o.product x o.unit ≡ x

@@ -1,5 +1,5 @@
 -- What `/` and `%` of 64 bits give of a number and a divisor of it.
-use Rattle.std.specs.Prelude.{◌≡◌, ℕ, zero, suc, ◌/◌, ◌%◌, ◌^◌, ◌≤◌, ℤ, pos, negsuc, ◌*ℤ◌, neg_ℤ, unsigned_abs, refl}
+use Rattle.std.specs.Prelude.{◌≡◌, ℕ, ◌%◌, ◌^◌, ◌≤◌, ℤ, pos, ◌*ℤ◌, unsigned_abs}
 use Rattle.std.specs.Int.{◌∣◌, cast_signed, cast_unsigned, w64}
 use Rattle.std.proofs.Common.{int_div, int_rem, FitsSigned, sym, ap, ◌∙◌, arith}
 use Rattle.std.proofs.lemmas.Int.{ints, quot_is, quot-rem, unsigned_abs-mul, fits_signed_from_abs}

@@ -65,7 +65,8 @@ before_trans f g h (inr (inr a)) (inl b) = inl (omega (arith, ints, a.0, b))
 before_trans f g h (inr (inr a)) (inr (inl b)) = inr (inl (a.0 ∙ b.0, omega (arith, ints, a.1, b.1)))
 before_trans f g h (inr (inr a)) (inr (inr b)) = inr (inr (a.0 ∙ b.0, a.1 ∙ b.1, omega (arith, ints, a.2, b.2)))
 
-all_after : (f g : LinearForm) → IsBefore f g → (xs : List Factor) → AllByRecursion (λ y. IsBefore g y.form) xs → AllByRecursion (λ y. IsBefore f y.form) xs
+-- what a form is behind of, each form behind it is behind of too
+pub all_after : (f g : LinearForm) → IsBefore f g → (xs : List Factor) → AllByRecursion (λ y. IsBefore g y.form) xs → AllByRecursion (λ y. IsBefore f y.form) xs
 all_after f g b [] h = tt
 all_after f g b (x ∷ xs) h = (before_trans f g x.form b h.0, all_after f g b xs h.1)
 

@@ -23,3 +23,9 @@ pub mod Quotients
 pub mod ValuesInBounds
 pub mod ShiftsInBounds
 pub mod StepMeanings
+pub mod Rings
+pub mod ShiftedCoefficients
+pub mod ShiftedTops
+pub mod ShiftedProducts
+pub mod ShiftsTwice
+pub mod ProductTops

@@ -124,6 +124,19 @@ module _ {A : Type 0} (o : Ops A) (l : RingLaws o) where
       )
 
   module _ (d : NoDivisors o) where
+    -- a factor that isn't zero is cancelled
+    pub cancelled : (x y t : A) → ¬ (t ≡ o.nought) → o.product x t ≡ o.product y t → x ≡ y
+    cancelled x y t some e =
+        equal_by x y (⊎_elim (λ h. h) (λ h. absurd (some h)) (d (o.sum x (o.neg y)) t (cc (
+          l.product_comm (o.sum x (o.neg y)) t,
+          l.distributes t x (o.neg y),
+          l.product_comm t x,
+          l.product_comm t (o.neg y),
+          neg_product y t,
+          e,
+          l.sum_neg (o.product y t),
+        ))))
+
     not_left : (x y : A) → o.product x y ≡ o.nought → ¬ (y ≡ o.nought) → x ≡ o.nought
     not_left x y e n = ⊎_elim (λ h. h) (λ h. absurd (n h)) (d x y e)
 

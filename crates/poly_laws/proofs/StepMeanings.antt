@@ -1,13 +1,14 @@
 -- The steps of Horner's rule and of a shift, over meanings.
-use Rattle.std.specs.Prelude.{◌≡◌, ℕ, List, [], ◌∷◌, drop, map, refl}
+use Rattle.std.specs.Prelude.{◌≡◌, ℕ, ℤ, IsTrue, List, [], ◌∷◌, drop, map, refl}
 use Rattle.std.proofs.Common.{ap, sym, ◌∙◌, subst}
-use Rattle.ring_laws.specs.Meaning.{Meaning}
+use Rattle.ring_laws.specs.Meaning.{Meaning, items}
 use Rattle.ring_laws.specs.Algebra.{Ops, Algebra, Passing, within, Laws, SumInBounds, ProductInBounds}
-use Rattle.poly_laws.specs.Lists.{coefficient_at, list_sum}
+use Rattle.poly_laws.specs.Lists.{coefficient_at, list_sum, trimmed}
+use Rattle.poly_laws.specs.PolyAlgebra.{poly_algebra}
 use Rattle.poly_laws.specs.Bounds.{ListSumInBounds, ScalingInBounds}
 use Rattle.poly_laws.specs.Evaluation.{list_value, ValueInBounds}
-use Rattle.poly_laws.specs.Shift.{raised_by, list_shift, ListShiftInBounds}
-use Rattle.poly_laws.proofs.Coefficients.{meanings_of, meanings-sum, meanings-scale, meanings-magnitude}
+use Rattle.poly_laws.specs.Shift.{raised_by, list_shift, poly_shift, ListShiftInBounds}
+use Rattle.poly_laws.proofs.Coefficients.{meanings_of, meanings-sum, meanings-scale, meanings-magnitude, meanings-trimmed, coefficients, meanings-coefficients, trimmed_passes}
 use Rattle.poly_laws.proofs.Fitting.{meanings-at}
 use Rattle.poly_laws.proofs.ListLaws.{at_scale}
 use Rattle.poly_laws.proofs.ListMagnitudes.{magnitudes_of}
@@ -35,6 +36,15 @@ module _ (a : Algebra) (l : Laws a) where
       → meanings_of a l.closed (list_shift base t xs) ≡ list_shift a.ops t.0 (meanings_of a l.closed xs)
   meanings-shift t [] = refl
   meanings-shift t (x ∷ xs) = meanings-raised t x (list_shift base t xs) ∙ ap (raised_by a.ops t.0 x.0) (meanings-shift t xs)
+
+  -- a polynomial at its variable plus a whole number belongs to the polynomials
+  pub shift_passes : (w : ℤ) (x : Passing (poly_algebra a)) → IsTrue ((poly_algebra a).passes (poly_shift a.ops w x.0))
+  shift_passes w x =
+      let shifted : List (Passing a) = list_shift base (base.whole w) (coefficients a l.closed x) in
+      trimmed_passes a l.closed shifted (trimmed a.ops (list_shift a.ops (a.ops.whole w) (items x.0)))
+      (meanings-trimmed a l.closed shifted
+      ∙ ap (trimmed a.ops) (meanings-shift (base.whole w) (coefficients a l.closed x)
+      ∙ ap (list_shift a.ops (a.ops.whole w)) (meanings-coefficients a l.closed x)))
 
   -- the products and sums of a step of Horner's rule
   pub record ValueStep (v c : Passing a) (cs : List (Passing a)) : Type 0 where

@@ -1,11 +1,19 @@
 -- What trimming leaves of a list of coefficients, and how long a trimmed list is.
 use Rattle.std.specs.Prelude.{◌≤◌, ◌⊎◌, length, ◌≡◌, ℕ, zero, suc, Bool, true, false, cond, not, IsTrue, List, [], ◌∷◌, get_or, refl}
-use Rattle.std.proofs.Common.{inl, inr, arith, ap, sym, subst, ◌∙◌}
+use Rattle.std.proofs.Common.{inl, inr, arith, ap, sym, subst, ◌∙◌, ⊎_elim}
 use Rattle.ring_laws.specs.Algebra.{Ops, RingLaws}
 use Rattle.std.proofs.lemmas.Bool.{cases_lt}
 use Rattle.poly_laws.specs.Lists.{coefficient_at, in_front, trimmed, is_trimmed, SameCoefficients}
 
 module _ {A : Type 0} (o : Ops A) (l : RingLaws o) where
+  bool_cases : (b : Bool) → IsTrue b ⊎ ¬ (IsTrue b)
+  bool_cases true = inl refl
+  bool_cases false = inr (λ h. cc)
+
+  -- whether a value is zero
+  pub zero_or_not : (x : A) → (x ≡ o.nought) ⊎ ¬ (x ≡ o.nought)
+  zero_or_not x = ⊎_elim (λ h. inl ((l.is_nought x).0 h)) (λ m. inr (λ e. m ((l.is_nought x).1 e))) (bool_cases (o.is_nought x))
+
   in_front_nought : (b : Bool) (x : A) → (IsTrue b → x ≡ o.nought) → (k : ℕ) → get_or (cond b [] (x ∷ [])) k o.nought ≡ get_or (x ∷ []) k o.nought
   in_front_nought true x h zero = sym (h refl)
   in_front_nought true x h (suc k) = refl

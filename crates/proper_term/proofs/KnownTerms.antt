@@ -9,7 +9,7 @@ use Rattle.lin_form.specs.FactorLists.{factor_with}
 use Rattle.proper_term.specs.Cancelled.{Argument, arguments_at, left_over, quotient, quotients}
 use Rattle.proper_term.specs.Fields.{number_fraction}
 use Rattle.proper_term.specs.NamesOfK.{k_places}
-use Rattle.proper_term.specs.NaturalRange.{natural_range}
+use Rattle.hypergeometric.specs.NaturalRange.{natural_range}
 use Rattle.proper_term.specs.ValueBounds.{size_at, base_power, divisors}
 
 -- the forms k, n - k and n

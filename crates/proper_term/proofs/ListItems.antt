@@ -7,7 +7,7 @@ use Rattle.std.proofs.lemmas.Bool.Decides.{Decides-int_eq}
 use Rattle.hypergeometric.specs.LinearForm.{Factor, form_value}
 use Rattle.hypergeometric.specs.ProperTerm.{NoneNegative, NoneZero}
 use Rattle.lin_form.proofs.ListProducts.{from_index}
-use Rattle.proper_term.specs.NaturalRange.{first_with_slope}
+use Rattle.hypergeometric.specs.NaturalRange.{first_with_slope}
 
 -- what stands at a place begins the list without what is before it
 pub item_first : {A : Type 0} (xs : List A) (i : ℕ) (x : A) → slice_get xs i ≡ Some x → drop i xs ≡ x ∷ drop (i + 1) xs

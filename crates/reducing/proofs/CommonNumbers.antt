@@ -1,11 +1,11 @@
 -- No number above 1 divides every coefficient of a reduced row: its content was taken out before the factors.
-use Rattle.std.specs.Prelude.{ℕ, zero, suc, ◌*◌, ◌+◌, ◌<◌, ℤ, pos, negsuc, ◌+ℤ◌, ◌*ℤ◌, unsigned_abs, ◌⊎◌, List, [], ◌∷◌, ◌++◌, map, refl}
+use Rattle.std.specs.Prelude.{ℕ, zero, suc, ◌*◌, ◌<◌, pos, ◌*ℤ◌, unsigned_abs, List, [], ◌∷◌, ◌++◌, map, refl}
 use Rattle.std.specs.Int.{◌∣◌}
-use Rattle.std.proofs.Common.{◌≡◌, sym, ◌∙◌, subst, arith, inl, inr, ⊎_elim}
-use Rattle.std.proofs.lemmas.Bool.{cases_lt}
-use Rattle.std.proofs.lemmas.Int.{ints, unsigned_abs-mul}
+use Rattle.std.proofs.Common.{◌≡◌, sym, ◌∙◌, subst, arith}
+use Rattle.std.proofs.lemmas.Int.{unsigned_abs-mul}
 use Rattle.std.proofs.lemmas.Nat.Gcd.{dvd-zero}
-use Rattle.std.proofs.Math.Nat.{dvd-add, dvd-add_iff_right, dvd-mul_left_of_dvd, mul-dvd-mul_left, dvd_of_mul-dvd-mul_left, one-dvd}
+use Rattle.std.proofs.Math.Nat.{mul-dvd-mul_left, dvd_of_mul-dvd-mul_left, one-dvd}
+use Rattle.ring_laws.proofs.DividedSums.{divides_sum, divides_product}
 use Rattle.ring_laws.specs.Meaning.{Meaning, items}
 use Rattle.ring_laws.specs.Algebra.{Passing}
 use Rattle.ring_laws.specs.Wholes.{number_of, whole_algebra}
@@ -16,31 +16,13 @@ use Rattle.poly_laws.proofs.ListLaws.{times_zero, times_suc, times_comm}
 use Rattle.poly_laws.proofs.PolyLaws.{coefficient-product}
 use Rattle.poly_divide.specs.Content.{sizes_of, row_sizes, DividesAll, IsContent}
 use Rattle.whole_roots.specs.Differences.{polynomials}
+use Rattle.reducing.specs.TakenOut.{times_row}
 use Rattle.reducing.specs.TakenOutLaws.{scaled, scaled_is, Multiple, all_taken_out_multiple}
 use Rattle.reducing.specs.FactorLists.{laws, domain, forms_are_factors}
 use Rattle.reducing.specs.PolynomialRows.{Row, meant, forms, Reduced, stays, divides, PolynomialsReduced}
 use Rattle.reducing.specs.CommonForms.{IsSomeNonzero}
 use Rattle.reducing.proofs.RowContents.{first_part, last_part}
 use Rattle.reducing.proofs.ContentQuotients.{o, polys, parts, by_number}
-
--- ---- divisors of sums and products of numbers
-sum_sizes : (a b : ℤ) → (unsigned_abs (a +ℤ b) ≡ unsigned_abs a + unsigned_abs b)
-    ⊎ ((unsigned_abs a ≡ unsigned_abs b + unsigned_abs (a +ℤ b)) ⊎ (unsigned_abs b ≡ unsigned_abs a + unsigned_abs (a +ℤ b)))
-sum_sizes (pos m) (pos n) = inl (omega (arith, ints))
-sum_sizes (negsuc m) (negsuc n) = inl (omega (arith, ints))
-sum_sizes (pos m) (negsuc n) =
-    ⊎_elim (λ b. inr (inr (omega (arith, ints, b)))) (λ b. inr (inl (omega (arith, ints, b)))) (cases_lt m (suc n))
-sum_sizes (negsuc m) (pos n) =
-    ⊎_elim (λ b. inr (inr (omega (arith, ints, b)))) (λ b. inr (inl (omega (arith, ints, b)))) (cases_lt (suc m) n)
-
-divides_sum : (d : ℕ) (a b : ℤ) → d ∣ unsigned_abs a → d ∣ unsigned_abs b → d ∣ unsigned_abs (a +ℤ b)
-divides_sum d a b h k =
-    ⊎_elim (λ e. subst (λ n. d ∣ n) (sym e) (dvd-add d h k))
-    (λ t. ⊎_elim (λ e. (dvd-add_iff_right d k).1 (subst (λ n. d ∣ n) e h)) (λ e. (dvd-add_iff_right d h).1 (subst (λ n. d ∣ n) e k)) t)
-    (sum_sizes a b)
-
-divides_product : (d : ℕ) (a b : ℤ) → d ∣ unsigned_abs b → d ∣ unsigned_abs (a *ℤ b)
-divides_product d a b h = subst (λ n. d ∣ n) (sym (unsigned_abs-mul a b)) (dvd-mul_left_of_dvd d h (unsigned_abs a))
 
 -- ---- of the coefficients of a list
 abbrev size_at : List (Passing whole_algebra) → ℕ → ℕ
@@ -115,6 +97,15 @@ of_number c d x h k =
 by_one : (xs : List ℕ) → DividesAll 1 xs
 by_one [] = tt
 by_one (x ∷ xs) = (one-dvd x, by_one xs)
+
+-- a number divides every coefficient of a row that is that number times another row
+pub number_divides : (c : ℕ) (row quotients : Row) → meant row ≡ times_row polynomials (polynomials.ops.whole (pos c)) quotients
+    → DividesAll c (row_sizes (meant row))
+number_divides c row quotients e =
+    let once : c * 1 ≡ c = omega arith in
+    subst (λ n. DividesAll n (row_sizes (meant row))) once
+    (subst (λ r. DividesAll (c * 1) (row_sizes (meant r))) (sym (scaled_is polynomials laws domain (polys.whole (pos c)) row quotients e))
+    (of_row 1 (c * 1) (polys.whole (pos c)) (of_number c 1) quotients (by_one (row_sizes (meant quotients)))))
 
 content_of_reduced : (old new : Row) → Reduced old new → IsSomeNonzero (meant new) → IsContent (row_sizes (meant new)) 1
 content_of_reduced old new (stays h) n = absurd (n h)

@@ -11,7 +11,7 @@ use Rattle.ring_laws.specs.declared.faults.RingFault.{RingFault}
 use Rattle.ring_laws.specs.declared.faults.RingFault.TheVariants.{Memory}
 use Rattle.poly_laws.proofs.ListLaws.{nought_product}
 use Rattle.whole_roots.specs.Differences.{polynomials}
-use Rattle.kernel_laws.proofs.Rings.{solvable}
+use Rattle.poly_laws.proofs.Rings.{solvable}
 use Rattle.reducing.specs.RowAnswer.{GivesParts}
 use Rattle.reducing.specs.TakenOutLaws.{Multiple}
 use Rattle.reducing.specs.PolynomialRows.{Row, meant, Reduced, PolynomialsReduced, PolynomialsInBounds, IsCore, PolynomialSplit, DivisionOfPolynomials, SplittingInBounds}

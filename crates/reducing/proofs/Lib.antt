@@ -11,5 +11,6 @@ mod ReducedRows
 mod Leads
 mod Cores
 mod KnownRows
-mod CommonForms
-mod CommonNumbers
+pub mod CommonForms
+pub mod CommonNumbers
+pub mod ZeroRows

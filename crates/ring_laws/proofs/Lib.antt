@@ -1,2 +1,3 @@
 mod KnownWholes
 pub mod Quotients
+pub mod DividedSums

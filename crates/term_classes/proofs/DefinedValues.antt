@@ -12,13 +12,14 @@ use Rattle.term_classes.proofs.SameValues.{times_zero, zero_times}
 use Rattle.term_classes.proofs.SharedForms.{AllSome, power_by, without_by}
 
 -- a defined product has defined factors
-left_defined : (f g : Fraction) → IsDefined (fraction_product f g) → IsDefined f
+pub left_defined : (f g : Fraction) → IsDefined (fraction_product f g) → IsDefined f
 left_defined f g d z = d (ap (λ b. b *ℤ g.bottom) z ∙ zero_times g.bottom)
 
-right_defined : (f g : Fraction) → IsDefined (fraction_product f g) → IsDefined g
+pub right_defined : (f g : Fraction) → IsDefined (fraction_product f g) → IsDefined g
 right_defined f g d z = d (ap (λ b. f.bottom *ℤ b) z ∙ times_zero f.bottom)
 
-base_defined : (f : Fraction) (power : ℕ) → 1 ≤ power → IsDefined (natural_power f power) → IsDefined f
+-- and so has a power
+pub base_defined : (f : Fraction) (power : ℕ) → 1 ≤ power → IsDefined (natural_power f power) → IsDefined f
 base_defined f zero h d = absurd (omega (arith, h))
 base_defined f (suc m) h d = left_defined f (natural_power f m) d
 

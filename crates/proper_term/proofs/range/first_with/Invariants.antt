@@ -1,6 +1,6 @@
 use Rattle.std.proofs.Common.{◌≡◌, drop}
 use Rattle.lin_form.specs.ListOf.{list_of}
-use Rattle.proper_term.specs.NaturalRange.{first_with_slope}
+use Rattle.hypergeometric.specs.NaturalRange.{first_with_slope}
 use Rattle.proper_term.proofs.range.first_with.Given as goal
 
 -- the first form with the slope is that of the list from here on
