@@ -59,7 +59,13 @@ module _ {A : Type 0} (o : Ops A) (l : RingLaws o) (u v : A) where
       (λ e. ⊎_elim n (last_not o l q [] h) (none u q ((l.is_nought (o.product u q)).0 e))))
   times_form_ended none n c q (x ∷ xs) h = times_form_ended none n (o.product u q) x xs h
 
-  times_form_length : (c : A) (qs : List A) → length (times_form o u v c qs) ≡ suc (length qs)
+  -- the greatest coefficient is that of the list, times u
+  pub times_form_lead : (c q : A) (qs : List A)
+      → coefficient_at o (times_form o u v c (q ∷ qs)) (suc (length qs)) ≡ o.product u (coefficient_at o (q ∷ qs) (length qs))
+  times_form_lead c q [] = refl
+  times_form_lead c q (x ∷ xs) = times_form_lead (o.product u q) x xs
+
+  pub times_form_length : (c : A) (qs : List A) → length (times_form o u v c qs) ≡ suc (length qs)
   times_form_length c [] = refl
   times_form_length c (q ∷ qs) = ap suc (times_form_length (o.product u q) qs)
 
@@ -106,20 +112,28 @@ module _ (u : ℕ) (v : ℤ) where
         ∙ coefficients-product whole_algebra whole_laws.closed q (form u v some)
         ∙ ap (λ t. trimmed base (list_product base (parts q) t)) (form_parts u v some)
 
+    -- where the quotient is [], so is f, and else f is its product with the form, which ends as the quotient does
+    pub product_none : parts q ≡ [] → parts f ≡ []
+    product_none e = product_parts ∙ ap (λ t. trimmed base (list_product base t (whole v ∷ whole (pos u) ∷ []))) e
+
+    pub product_form : (x : Passing whole_algebra) (xs : List (Passing whole_algebra)) → parts q ≡ x ∷ xs
+        → parts f ≡ times_form base (whole (pos u)) (whole v) base.nought (x ∷ xs)
+    product_form x xs e =
+        product_parts ∙ ap (λ t. trimmed base (list_product base t (whole v ∷ whole (pos u) ∷ []))) e
+        ∙ trimmed_same base whole_laws.ring (list_product base (x ∷ xs) (whole v ∷ whole (pos u) ∷ []))
+        (times_form base (whole (pos u)) (whole v) base.nought (x ∷ xs)) (same_list (x ∷ xs))
+        ∙ trimmed_already base (times_form base (whole (pos u)) (whole v) base.nought (x ∷ xs))
+        (times_form_ended base whole_laws.ring (whole (pos u)) (whole v) (no_divisors_within whole_algebra whole_laws.closed whole_domain)
+        (slope_not u v some) base.nought x xs
+        (ap (is_trimmed base) (sym e) ∙ coefficients_trimmed whole_algebra whole_laws.closed q))
+
     value_none : stretched_value (parts f) ≡ pos 0
     value_none = by (parts q) refl
       where
         by : (qs : List (Passing whole_algebra)) → parts q ≡ qs → stretched_value (parts f) ≡ pos 0
-        by [] e = ap stretched_value (product_parts ∙ ap (λ t. trimmed base (list_product base t (whole v ∷ whole (pos u) ∷ []))) e)
+        by [] e = ap stretched_value (product_none e)
         by (x ∷ xs) e =
-            ap stretched_value (product_parts ∙ ap (λ t. trimmed base (list_product base t (whole v ∷ whole (pos u) ∷ []))) e
-            ∙ trimmed_same base whole_laws.ring (list_product base (x ∷ xs) (whole v ∷ whole (pos u) ∷ []))
-            (times_form base (whole (pos u)) (whole v) base.nought (x ∷ xs)) (same_list (x ∷ xs))
-            ∙ trimmed_already base (times_form base (whole (pos u)) (whole v) base.nought (x ∷ xs))
-            (times_form_ended base whole_laws.ring (whole (pos u)) (whole v) (no_divisors_within whole_algebra whole_laws.closed whole_domain)
-            (slope_not u v some) base.nought x xs
-            (ap (is_trimmed base) (sym e) ∙ coefficients_trimmed whole_algebra whole_laws.closed q)))
-            ∙ times_form_value base.nought (x ∷ xs) ∙ none_times (pos (u ^ length (x ∷ xs)))
+            ap stretched_value (product_form x xs e) ∙ times_form_value base.nought (x ∷ xs) ∙ none_times (pos (u ^ length (x ∷ xs)))
 
     quotient_gives_root : IsRoot (stretched u f.0) (neg_ℤ v)
     quotient_gives_root =

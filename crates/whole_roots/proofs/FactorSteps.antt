@@ -101,6 +101,18 @@ root_added slope root roots f old new above small adds h =
     back u v (inr (e, inl p)) = inr (e, turned_back v root p)
     back u v (inr (e, inr p)) = inl (inr (e, p))
 
+-- no form of the slope divides f
+pub no_factor : (slope : ℕ) (f : Meaning) (xs : List Entry) → ((v : ℤ) → ¬ (PowerDivides slope v 1 f)) → AreFactorsAmong (λ u v. u < slope) f xs
+    → AreFactorsAmong (λ u v. u < slope + 1) f xs
+no_factor slope f xs none h =
+    widened (λ u v. u < slope) (λ u v. u < slope + 1) f xs (λ u v p. omega (arith, p)) (λ u v q form d. back u v q d) h
+  where
+    back : (u : ℕ) (v : ℤ) → u < slope + 1 → PowerDivides u v 1 f → u < slope
+    back u v b d =
+        ⊎_elim (λ p. p)
+        (λ (p : slope ≤ u). let e : u ≡ slope = omega (arith, p, b) in absurd (none v (subst (λ z. PowerDivides z v 1 f) e d)))
+        (cases_lt u slope)
+
 -- all roots are listed
 pub all_roots_seen : (slope : ℕ) (roots : List ℤ) (f : Meaning) (xs : List Entry) → ((v : ℤ) → PowerDivides slope v 1 f → IsItem (neg_ℤ v) roots)
     → AreFactorsAmong (SeenAt slope roots) f xs → AreFactorsAmong (λ u v. u < slope + 1) f xs

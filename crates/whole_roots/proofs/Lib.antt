@@ -12,7 +12,8 @@ mod RootBounds
 mod FormPowers
 mod Coprime
 mod FactorLists
-mod FactorRoots
+pub mod FactorRoots
+mod FactorLeads
 mod FactorSteps
 mod NextParts
 mod RootFactors

@@ -2,13 +2,13 @@
 //!
 //! Where `u*n + v` divides f, -v is a whole root of `u^degree * f(n/u)`.
 
-ghost use Rattle.std.specs.Prelude.{◌≡◌, ◌≢◌, ◌+◌, ◌≤◌, ◌<◌, ◌^◌, pos, neg_ℤ, ◌*ℤ◌, ◌≤ℤ◌, unsigned_abs, [], IfOk, IfErr, OnOk, ℕ, ℤ};
+ghost use Rattle.std.specs.Prelude.{◌≡◌, ◌≢◌, false, ◌+◌, ◌≤◌, ◌<◌, ◌^◌, pos, neg_ℤ, ◌*ℤ◌, ◌≤ℤ◌, unsigned_abs, [], IfOk, IfErr, OnOk, ℕ, ℤ};
 ghost use Rattle.std.specs.List.{AllByRecursion};
 ghost use Rattle.ring_laws.specs.Meaning.{listed, items};
 ghost use Rattle.ring_laws.specs.Answer.{OnFault};
 ghost use Rattle.ring_laws.specs.Wholes.{whole_algebra};
 ghost use Rattle.poly_laws.specs.Lists.{coefficient_at};
-ghost use Rattle.whole_roots.specs.LinearFactors.{Entry, IsProfileForm, IsBefore, IsGreatestPower, AreLinearFactors, AreSmall};
+ghost use Rattle.whole_roots.specs.LinearFactors.{Entry, IsProfileForm, PowerDivides, IsBefore, IsGreatestPower, AreLinearFactors, AreSmall};
 ghost use Rattle.whole_roots.specs.FactorSearch.{AreFactorsAmong, AddsFactor};
 ghost use Rattle.whole_roots.specs.FactorBounds.{stretched, stretched_list, DivisionsInBounds, FactorsInBounds};
 
@@ -95,6 +95,16 @@ fn push_factor(
     Ok(())
 }
 
+// Whether some form of this slope may divide f: f isn't constant, and the slope divides its lead.
+fn may_divide(f: &Zn, slope: u8) -> bool
+    requires not_zero { ⟦<Zn as Ring>⟧.meaning f.now ≢ listed [] }
+    requires slope { 1 ≤ slope }
+    ensures none { result ≡ false → (v : ℤ) → ¬ (PowerDivides slope v 1 (⟦<Zn as Ring>⟧.meaning f.now)) }
+{
+    let list = f.coefficients();
+    list.len() > 1 && list[list.len() - 1].value().unsigned_abs() % u128::from(slope) == 0
+}
+
 // Adds the factors of a slope to those of smaller slopes.
 fn push_factors(
     alloc: Global,
@@ -109,6 +119,9 @@ fn push_factors(
     ensures found { OnOk result (AreFactorsAmong (λ u v. u < slope + 1) (⟦<Zn as Ring>⟧.meaning f.now) factors.new.entries) }
     ensures too_large { IfErr result (OnFault (¬ (FactorsInBounds (⟦<Zn as Ring>⟧.meaning f.now)))) }
 {
+    if !may_divide(f, slope) {
+        return Ok(());
+    }
     let stretched = stretched(alloc, f, slope)?;
     let roots = whole_roots(alloc, &stretched)?;
     let mut left = roots.len();

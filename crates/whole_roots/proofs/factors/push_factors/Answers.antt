@@ -13,11 +13,17 @@ use Rattle.whole_roots.specs.Roots.{IsRoot}
 use Rattle.whole_roots.proofs.Bounds.{negative_fits, held_negative, negative_not_least}
 use Rattle.whole_roots.proofs.DifferenceLaws.{polynomial_of}
 use Rattle.whole_roots.proofs.FactorRoots.{factor_gives_root}
-use Rattle.whole_roots.proofs.FactorSteps.{SeenAt, root_at_small, root_at, roots_from_index, root_below, no_root_yet, comes_last, root_added, all_roots_seen, twice_negative}
+use Rattle.whole_roots.proofs.FactorSteps.{SeenAt, root_at_small, root_at, roots_from_index, root_below, no_root_yet, comes_last, root_added, no_factor, all_roots_seen, twice_negative}
 use Rattle.whole_roots.proofs.Faults.{fault_with}
 use Rattle.whole_roots.proofs.RootFactors.{root_gives_factor}
 use Rattle.whole_roots.proofs.Stretching.{stretched_not_zero}
 use Rattle.whole_roots.proofs.factors.push_factors.Goals as goal
+
+-- no form of the slope divides f
+pub returns-then-not-may_divide-clause-found : goal.returns-then-not-may_divide-clause-found
+returns-then-not-may_divide-clause-found c =
+    no_factor c.args.slope (listed (map (λ (w : Whole). number w.value) c.args.f.now.list.items)) c.args.factors.now.entries
+    (c.may_divide.ensures.none c.if-not-may_divide.true) c.requires.found
 
 pub whole_roots-requires : goal.whole_roots-requires
 whole_roots-requires c = record {

@@ -4,21 +4,9 @@ use Rattle.std.proofs.lemmas.Int.{ints, to_z-of_z}
 use Rattle.ring_laws.specs.Meaning.{number, listed}
 use Rattle.ring_laws.specs.declared.wholes.Whole.{Whole}
 use Rattle.whole_roots.specs.Signs.{sign_of, value}
-use Rattle.whole_roots.proofs.SignLemmas.{false_true}
 use Rattle.whole_roots.proofs.Bounds.{above_fits, below_fits, fits_between, neighbours}
-use Rattle.whole_roots.proofs.Monotone.{no_turn_between, turn_found, apart}
+use Rattle.whole_roots.proofs.Monotone.{turn_found, apart}
 use Rattle.whole_roots.proofs.turns.next_turn.Goals as goal
-
--- both ends have one sign, so all between have it
-pub returns-then-has_sign : goal.returns-then-has_sign
-returns-then-has_sign c =
-    let m = listed (map (λ (w : Whole). number w.value) c.args.f.now.list.items) in
-    let start = to_z-of_z w128 c.args.start c.ranges.start in
-    let end = to_z-of_z w128 c.args.end c.ranges.end in
-    let same : sign_of (value m c.args.start) ≡ sign_of (value m c.args.end) =
-    ap (λ (z : ℤ). sign_of (value m z)) (sym start) ∙ sym c.sign_at-sign.ensures.sign ∙ sym (c.has_sign.ensures.test.0 c.if-has_sign.true)
-    ∙ ap (λ (z : ℤ). sign_of (value m z)) end in
-    record { turn = no_turn_between (value m) c.args.start c.args.end c.args.end c.requires.monotone (omega (arith, ints)) same }
 
 -- the ends have different signs
 pub loop-low-init : goal.loop-low-init
@@ -30,13 +18,13 @@ loop-low-init c =
     let end : high ≡ c.args.end = to_z-of_z w128 c.args.end c.ranges.end in
     let order : low ≤ℤ high = omega (arith, ints, start, end, c.requires.order) in
     let different : ¬ (sign_of (value m high) ≡ sign_of (value m low)) =
-    λ s. false_true (sym c.if-has_sign.false ∙ c.has_sign.ensures.test.1 (s ∙ sym c.sign_at-sign.ensures.sign)) in
+    λ s. c.requires.ended (c.requires.begun ∙ ap (λ (z : ℤ). sign_of (value m z)) (sym start) ∙ sym s ∙ ap (λ (z : ℤ). sign_of (value m z)) end) in
     record {
       begun = omega (arith, ints);
       apart = apart (value m) low high order different;
       ended = omega (arith, ints);
-      low_sign = ap (λ (z : ℤ). sign_of (value m z)) (start ∙ sym start);
-      high_sign = different;
+      low_sign = ap (λ (z : ℤ). sign_of (value m z)) start ∙ sym c.requires.begun;
+      high_sign = λ e. c.requires.ended (sym e ∙ ap (λ (z : ℤ). sign_of (value m z)) end);
     }
 
 -- nothing is left between the two ends
@@ -52,10 +40,9 @@ returns c =
     neighbours low high (fits_between low (omega (arith, ints, start, i.begun, above_fits c.args.start c.ranges.start))
     (omega (arith, ints, i.apart, i.ended, end, below_fits c.args.end c.ranges.end))) i.apart
     (omega (arith, ints, i.ended, end, below_fits c.args.end c.ranges.end)) c.loop-low-test.false in
-    let f = λ (z : ℤ). sign_of (value m z) in
     record {
       turn =
           turn_found (value m) c.args.start c.args.end low high c.requires.monotone (omega (arith, ints, start, i.begun)) i.apart
-          (omega (arith, ints, end, i.ended)) next (i.low_sign ∙ ap f start)
-          (λ e. i.high_sign (e ∙ sym (ap f start)));
+          (omega (arith, ints, end, i.ended)) next (i.low_sign ∙ c.requires.begun)
+          (λ e. i.high_sign (e ∙ sym c.requires.begun));
     }

@@ -4,16 +4,14 @@ use Rattle.std.proofs.Common.{map}
 use Rattle.whole_roots.specs.Signs.{sign_of, value}
 use Rattle.whole_roots.proofs.turns.next_turn.Given as goal
 
--- the sign at the low end is that at the start, and the one at the high end isn't
+-- the low end has the sign, and the high end hasn't
 abbrev pub invariant-loop-low : goal.invariant-loop-low
 invariant-loop-low l = record {
   begun : l.start ≤ℤ l.low;
   apart : l.low <ℤ l.high;
   ended : l.high ≤ℤ l.end;
-  low_sign : sign_of (value (listed (map (λ w. number w.value) l.f.list.items)) l.low)
-      ≡ sign_of (value (listed (map (λ w. number w.value) l.f.list.items)) l.start);
-  high_sign : ¬ (sign_of (value (listed (map (λ w. number w.value) l.f.list.items)) l.high)
-      ≡ sign_of (value (listed (map (λ w. number w.value) l.f.list.items)) l.start));
+  low_sign : sign_of (value (listed (map (λ w. number w.value) l.f.list.items)) l.low) ≡ l.sign;
+  high_sign : ¬ (sign_of (value (listed (map (λ w. number w.value) l.f.list.items)) l.high) ≡ l.sign);
 }
 
 abbrev pub decreases-loop-low : goal.decreases-loop-low

@@ -37,7 +37,8 @@ loop-index-preserved c =
       within = omega (arith, ints, again, h.0.1);
       cuts =
           subst (λ (z : ℤ). AreAll (IsTurn (value (difference m))) z greatest (drop (c.loop-index.index + 1) c.args.cuts.now)) (sym again) h.1.1.1;
-      found = c.in_ok-push_turns.ensures.found;
+      found = c.in_ok-sign.ensures.found;
+      sign = c.in_ok-sign.ensures.ended;
     }
 
 -- and so they do above the last
