@@ -13,6 +13,7 @@ pub record Match : Type 0 where
   pub shift : ℕ
   pub power : ℕ
 
+-- the matches, q and r, the product g, and the first poles
 pub record Normal : Type 0 where
   pub matches : List Match
   pub q : FactorList
@@ -50,6 +51,7 @@ IsTaking q0 r0 e = (s : LinearForm) (h : ℕ)
 abbrev pub ComesBefore : Match → Match → Type 0
 ComesBefore x y = (x.shift < y.shift) ⊎ ((x.shift ≡ y.shift) × IsBefore x.form y.form)
 
+-- each match comes before those that stand after it
 abbrev pub AreInOrder : List Match → Type 0
 AreInOrder [] = Unit {0}
 AreInOrder (x ∷ xs) = AllByRecursion (ComesBefore x) xs × AreInOrder xs
@@ -59,10 +61,11 @@ abbrev pub Occurs : (Match → LinearForm) → LinearForm → ℕ → ℕ → Li
 Occurs view s h power [] = ⊥
 Occurs view s h power (m ∷ ms) = ((view m ≡ s) × (m.shift ≡ h) × (m.power ≡ power)) ⊎ Occurs view s h power ms
 
--- what a match takes from q0, and what it takes from r0
+-- the form that a match takes from q0
 abbrev pub form_above : Match → LinearForm
 form_above m = m.form
 
+-- the form that a match takes from r0
 abbrev pub form_below : Match → LinearForm
 form_below m = at_earlier_k m.form m.shift
 
@@ -72,10 +75,11 @@ pub record AreMatches (e : Taken) (matches : List Match) : Type 0 where
   pub each : AllByRecursion (λ m. (m.power ≡ e m.form m.shift) × (m.power ≢ 0)) matches
   pub all : (s : LinearForm) (h : ℕ) → e s h ≢ 0 → Occurs form_above s h (e s h) matches
 
--- the forms that the matches stand for, and the power that a form has among forms
+-- the forms that the matches stand for
 abbrev pub matched : (Match → LinearForm) → List Match → List Factor
 matched view ms = map (λ m. factor_with (view m) m.power) ms
 
+-- the power that a form has among forms
 abbrev pub power_within : LinearForm → List Factor → ℕ
 power_within f [] = 0
 power_within f (x ∷ xs) = cond (same_form f x.form) x.power 0 + power_within f xs
@@ -92,10 +96,12 @@ abbrev pub forms_before : LinearForm → ℕ → ℕ → List Factor
 forms_before s zero power = []
 forms_before s (suc h) power = forms_before s h power ++ (factor_with (at_earlier_k s (suc h)) power ∷ [])
 
+-- the forms of g: s(k-1) .. s(k-h) over the matches
 abbrev pub gosper_forms : List Match → List Factor
 gosper_forms [] = []
 gosper_forms (m ∷ ms) = forms_before m.form m.shift m.power ++ gosper_forms ms
 
+-- the forms of the first poles: s(k-1) .. s(k-h-1) over the matches
 abbrev pub chains : List Match → List Factor
 chains [] = []
 chains (m ∷ ms) = forms_before m.form (suc m.shift) m.power ++ chains ms

@@ -3,10 +3,12 @@
 //! `specs/NormalForm.antt` has the definition, `proofs/` the laws. The functions here do nothing: their contracts are the laws.
 #![tactic(auto)]
 
-ghost use Rattle.std.specs.Prelude.{◌≡◌, ◌≤◌, ℕ, List};
-ghost use Rattle.hypergeometric.specs.LinearForm.{LinearForm, Factor, FactorList};
+ghost use Rattle.std.specs.Prelude.{◌≡◌, ◌≤◌, ℕ, ℤ, pos, ◌+ℤ◌, ◌-ℤ◌, ◌*ℤ◌, List};
+ghost use Rattle.hypergeometric.specs.LinearForm.{LinearForm, Factor, FactorList, factor_list_value};
+ghost use Rattle.hypergeometric.specs.FormOrder.{IsSorted};
 ghost use Rattle.lin_form.specs.FactorLists.{power_of};
 ghost use Rattle.normal_forms.specs.NormalForm.{Normal, Taken, IsTaking, taken_above, taken_below, IsNormalFormOf, HasNoMatch};
+ghost use Rattle.normal_forms.specs.Quotients.{value_above, value_below};
 
 /// What is taken from q0 and r0, shift by shift: never more than there is, and in one way only.
 pub fn takings_are_exact()
@@ -19,4 +21,30 @@ pub fn takings_are_exact()
 pub fn normal_forms_have_no_match()
     ensures no_match { (normal : Normal) (q0 r0 : FactorList) → IsNormalFormOf normal q0 r0
         → HasNoMatch normal.q.factors normal.r.factors }
+{}
+
+/// Two lists have one normal form: its matches, q, r, g and first poles.
+pub fn normal_forms_are_one()
+    ensures only { (n m : Normal) (q0 r0 : FactorList) → IsNormalFormOf n q0 r0 → IsNormalFormOf m q0 r0 → n ≡ m }
+{}
+
+/// Any two lists have a normal form.
+pub fn normal_forms_exist()
+    ensures some { (q0 r0 : FactorList) → (normal : Normal) × IsNormalFormOf normal q0 r0 }
+{}
+
+/// A normal form keeps the quotient, at each point. With A what the matches take from q0 and B what they take from r0: q0 = q A and r0 = r B.
+/// The chains are g(k) B(k-1), and A(k) g(k) at k + 1. So q0(k)/r0(k) is q(k)/r(k) times g(k+1)/g(k) (A=B chapter 5).
+pub fn normal_forms_keep_the_quotient()
+    ensures q { (normal : Normal) (q0 r0 : FactorList) → IsNormalFormOf normal q0 r0 → IsSorted q0.factors → (n k : ℤ)
+        → factor_list_value q0 n k ≡ factor_list_value normal.q n k *ℤ value_above normal n k }
+    ensures r { (normal : Normal) (q0 r0 : FactorList) → IsNormalFormOf normal q0 r0 → IsSorted r0.factors → (n k : ℤ)
+        → factor_list_value r0 n k ≡ factor_list_value normal.r n k *ℤ value_below normal n k }
+    ensures chains_here { (normal : Normal) (q0 r0 : FactorList) → IsNormalFormOf normal q0 r0 → (n k : ℤ)
+        → factor_list_value normal.poles n k ≡ factor_list_value normal.g n k *ℤ value_below normal n (k -ℤ pos 1) }
+    ensures chains_next { (normal : Normal) (q0 r0 : FactorList) → IsNormalFormOf normal q0 r0 → (n k : ℤ)
+        → factor_list_value normal.poles n (k +ℤ pos 1) ≡ value_above normal n k *ℤ factor_list_value normal.g n k }
+    ensures quotient { (normal : Normal) (q0 r0 : FactorList) → IsNormalFormOf normal q0 r0 → IsSorted q0.factors → IsSorted r0.factors → (n k : ℤ)
+        → factor_list_value q0 n k *ℤ (factor_list_value normal.r n k *ℤ factor_list_value normal.g n k)
+        ≡ factor_list_value r0 n k *ℤ (factor_list_value normal.q n k *ℤ factor_list_value normal.g n (k +ℤ pos 1)) }
 {}

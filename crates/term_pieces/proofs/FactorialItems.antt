@@ -29,7 +29,7 @@ earlier_k f n k = shift (f.n_slope *ℤ n) f.k_slope f.offset k
     shift : (a s o k : ℤ) → (a +ℤ s *ℤ (k -ℤ pos 1)) +ℤ o ≡ ((a +ℤ s *ℤ k) +ℤ o) -ℤ s
     shift a s o k = ring_z (a ∷ s ∷ o ∷ k ∷ []) (search reading_z depth 40 fits 20000) refl
 
-next_k : (f : LinearForm) (n k : ℤ) → form_value f n (k +ℤ pos 1) ≡ form_value f n k +ℤ f.k_slope
+pub next_k : (f : LinearForm) (n k : ℤ) → form_value f n (k +ℤ pos 1) ≡ form_value f n k +ℤ f.k_slope
 next_k f n k = shift (f.n_slope *ℤ n) f.k_slope f.offset k
   where
     shift : (a s o k : ℤ) → (a +ℤ s *ℤ (k +ℤ pos 1)) +ℤ o ≡ ((a +ℤ s *ℤ k) +ℤ o) +ℤ s

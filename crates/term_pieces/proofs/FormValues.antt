@@ -50,7 +50,7 @@ pow_of_product a b (suc e) =
     exchange : (a b x y : ℤ) → (a *ℤ b) *ℤ (x *ℤ y) ≡ (a *ℤ x) *ℤ (b *ℤ y)
     exchange a b x y = ring_z (a ∷ b ∷ x ∷ y ∷ []) (search reading_z depth 40 fits 20000) refl
 
-pow_of_one : (e : ℕ) → pow (pos 1) e ≡ pos 1
+pub pow_of_one : (e : ℕ) → pow (pos 1) e ≡ pos 1
 unfolding pow lib.IntN.one
 pow_of_one zero = refl
 pow_of_one (suc e) = pow-succ' (pos 1) e ∙ ap (λ t. pos 1 *ℤ t) (pow_of_one e)

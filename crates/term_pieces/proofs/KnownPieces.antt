@@ -1,28 +1,10 @@
 -- Pieces that are known from elsewhere: those of the binomial coefficient at the orders 0 and 1, and of 1/(k (n + 1)) at the order 1.
-use Rattle.std.specs.Prelude.{◌≡◌, ℤ, pos, negsuc, List, [], ◌∷◌, refl}
-use Rattle.poly_laws.specs.Values.{level}
-use Rattle.hypergeometric.specs.Fraction.{of_whole}
-use Rattle.hypergeometric.specs.LinearForm.{Factor}
+use Rattle.std.specs.Prelude.{◌≡◌, pos, negsuc, [], ◌∷◌, refl}
 use Rattle.hypergeometric.specs.ProperTerm.{ProperTerm}
-use Rattle.lin_form.specs.FactorLists.{factor_with}
 use Rattle.term_classes.specs.Forms.{with_numbers}
 use Rattle.term_pieces.specs.Products.{power_among, contents_of}
 use Rattle.term_pieces.specs.Pieces.{top_forms, q_forms, r_forms, top_number, carrier_of}
-
-abbrev once : ℤ → ℤ → ℤ → Factor
-once n_slope k_slope offset = factor_with (with_numbers n_slope k_slope offset) 1
-
-abbrev term_with : List Factor → List Factor → List Factor → ProperTerm
-term_with up down over = record {
-  poly = (level 2).ops.unit;
-  scale = of_whole (pos 1);
-  n_base = of_whole (pos 1);
-  k_base = of_whole (pos 1);
-  up = up;
-  down = down;
-  over = over;
-  guard = [];
-}
+use Rattle.term_pieces.proofs.KnownTerms.{once, term_with}
 
 -- n! / (k! (n - k)!)
 abbrev binomial : ProperTerm

@@ -1,4 +1,8 @@
+pub mod FormPlaces
+pub mod PowerLists
+pub mod SomePieces
 mod KnownPieces
+mod KnownTerms
 pub mod Factorials
 pub mod FormValues
 pub mod Splits
@@ -13,3 +17,5 @@ pub mod NumberSplits
 pub mod ListSplits
 pub mod SharedValues
 pub mod OneList
+pub mod CarrierDefined
+pub mod OnePieces

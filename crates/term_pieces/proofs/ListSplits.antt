@@ -30,7 +30,7 @@ splits_same order v t t' h h' m m' r r' q q' te he me re qe s = record {
 }
 
 -- the least of a form is its value at n or at n + J
-least_is : (f : LinearForm) (order : ℕ) (n k : ℤ) → pos 0 ≤ℤ form_value f n k → pos 0 ≤ℤ form_value f (n +ℤ pos order) k
+pub least_is : (f : LinearForm) (order : ℕ) (n k : ℤ) → pos 0 ≤ℤ form_value f n k → pos 0 ≤ℤ form_value f (n +ℤ pos order) k
     → pos 0 ≤ℤ form_value (least_of order f) n k
 least_is f order n k first last = by f.n_slope refl
   where

@@ -7,7 +7,7 @@ use Rattle.hypergeometric.specs.LinearForm.{LinearForm, Factor, FactorList}
 use Rattle.hypergeometric.specs.FormOrder.{IsBefore, IsSorted}
 use Rattle.lin_form.specs.FactorLists.{same_form, power_of}
 use Rattle.lin_form.proofs.Lookups.{same_form_found, same_form_itself}
-use Rattle.lin_form.proofs.SortedLists.{before_trans}
+use Rattle.lin_form.proofs.SortedLists.{all_after}
 use Rattle.term_pieces.specs.Products.{IsProductOf}
 use Rattle.term_pieces.proofs.ProductValues.{not_among}
 
@@ -20,7 +20,7 @@ order_of x y = by (x -ℤ y) refl
     by (negsuc m) e = inr (inl (omega (arith, ints, e)))
 
 -- one of two forms that aren't the same comes before the other
-order_of_forms : (f g : LinearForm) → (f ≡ g) ⊎ (IsBefore f g ⊎ IsBefore g f)
+pub order_of_forms : (f g : LinearForm) → (f ≡ g) ⊎ (IsBefore f g ⊎ IsBefore g f)
 order_of_forms f g = by_k (order_of f.k_slope g.k_slope)
   where
     by_offset : f.k_slope ≡ g.k_slope → f.n_slope ≡ g.n_slope → ((f.offset ≡ g.offset) ⊎ ((f.offset <ℤ g.offset) ⊎ (g.offset <ℤ f.offset)))
@@ -43,14 +43,10 @@ order_of_forms f g = by_k (order_of f.k_slope g.k_slope)
 own_power : (y : Factor) (ys : List Factor) → power_of y.form (y ∷ ys) ≡ y.power
 own_power y ys = ap (λ b. cond b y.power (power_of y.form ys)) (same_form_itself y.form y.form refl)
 
-all_after : (f g : LinearForm) → IsBefore f g → (ys : List Factor) → AllByRecursion (λ y. IsBefore g y.form) ys → AllByRecursion (λ y. IsBefore f y.form) ys
-all_after f g h [] a = tt
-all_after f g h (y ∷ ys) (a, more) = (before_trans f g y.form h a, all_after f g h ys more)
-
-abbrev AllSome : List Factor → Type 0
+abbrev pub AllSome : List Factor → Type 0
 AllSome xs = AllByRecursion (λ x. x.power ≢ 0) xs
 
-sorted_once : (xs ys : List Factor) → IsSorted xs → IsSorted ys → AllSome xs → AllSome ys → ((f : LinearForm) → power_of f xs ≡ power_of f ys) → xs ≡ ys
+pub sorted_once : (xs ys : List Factor) → IsSorted xs → IsSorted ys → AllSome xs → AllSome ys → ((f : LinearForm) → power_of f xs ≡ power_of f ys) → xs ≡ ys
 sorted_once [] [] p q a b h = refl
 sorted_once [] (y ∷ ys) p q a (b, bs) h = absurd (b (sym (own_power y ys) ∙ sym (h y.form)))
 sorted_once (x ∷ xs) [] p q (a, more) b h = absurd (a (sym (own_power x xs) ∙ h x.form))

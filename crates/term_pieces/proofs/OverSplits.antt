@@ -16,7 +16,7 @@ use Rattle.term_pieces.proofs.OverItems.{inverse_of, inverses, carrier_here, car
 use Rattle.term_pieces.proofs.ShiftedDenominators.{first_same, left_out, one_left_out}
 use Rattle.term_pieces.proofs.Splits.{Splits, times_common}
 
-none_zero_joined : (xs ys : List Factor) (n k : ℤ) → NoneZero xs n k → NoneZero ys n k → NoneZero (xs ++ ys) n k
+pub none_zero_joined : (xs ys : List Factor) (n k : ℤ) → NoneZero xs n k → NoneZero ys n k → NoneZero (xs ++ ys) n k
 none_zero_joined [] ys n k h g = g
 none_zero_joined (x ∷ xs) ys n k (h, hs) g = (h, none_zero_joined xs ys n k hs g)
 
@@ -31,7 +31,7 @@ module _ (order : ℕ) (x : Factor) (n k : ℤ) (some : (j : ℕ) → j ≤ orde
       none_zero_joined (shifts_up_to i x) (factor_with (at_later_n x.form (pos (suc i))) x.power ∷ []) n k (shifts_some i (omega (arith, l)))
       ((λ e. some (suc i) l (sym (later_n_value x.form (pos (suc i)) n k) ∙ e)), tt)
 
-  counted_some : (b : Bool) → NoneZero (cond b (x ∷ []) (shifts_up_to order x)) n k
+  pub counted_some : (b : Bool) → NoneZero (cond b (x ∷ []) (shifts_up_to order x)) n k
   counted_some true = (first_some, tt)
   counted_some false = shifts_some order (omega arith)
 

@@ -17,7 +17,7 @@ use Rattle.term_pieces.specs.Products.{power_among, contents_of, IsProductOf}
 use Rattle.term_pieces.proofs.FormValues.{pow_of_product}
 
 -- forms that aren't the same by the test are not the same
-not_same : (f g : LinearForm) → same_form f g ≡ false → f ≢ g
+pub not_same : (f g : LinearForm) → same_form f g ≡ false → f ≢ g
 not_same f g e h = false≢true (sym e ∙ same_form_itself f g h)
 
 pub pow_of_sum : (z : ℤ) (a b : ℕ) → pow z (a + b) ≡ pow z a *ℤ pow z b

@@ -10,6 +10,7 @@ use Rattle.hypergeometric.specs.ProperTerm.{ProperTerm, HasFractions, IsDefinedA
 use Rattle.term_classes.proofs.FractionPowers.{fraction_same, one_product}
 use Rattle.term_pieces.specs.Pieces.{Pieces, ArePiecesOf, from_each, above_least, below_greatest, rising_up, falling_up, rising_down, falling_down, counted_but, cleared_over, later_over, kept_over, poly_at_later_n, top_number, top_forms, q_forms, r_forms, carrier_of, carrier_up, carrier_down}
 use Rattle.term_pieces.specs.PieceValues.{ShareValue}
+use Rattle.term_pieces.proofs.CarrierDefined.{defined_here, defined_next}
 use Rattle.term_pieces.proofs.FormValues.{joined_value}
 use Rattle.term_pieces.proofs.ListSplits.{up_splits, down_splits, over_lists, gathered_value}
 use Rattle.term_pieces.proofs.NumberSplits.{number_splits, poly_splits}
@@ -128,4 +129,6 @@ module _ (f : ProperTerm) (order : ℕ) (n k : ℤ) (parts : HasFractions f) (de
         subst (λ z. z ≈ times_common (factor_list_value pieces.q0 n k) all.common)
         (sym (ap (λ g. proper_value g n (k +ℤ pos 1)) are.carrier ∙ carrier_is (k +ℤ pos 1)))
         (subst (λ z. carrier_fields (k +ℤ pos 1) ≈ times_common z all.common) numbers all.carrier_next);
+    defined_here = subst (λ c. IsDefinedAt c n k) (sym are.carrier) (defined_here f order n k defined);
+    defined_next = subst (λ c. IsDefinedAt c n (k +ℤ pos 1)) (sym are.carrier) (defined_next f order n k defined);
   }

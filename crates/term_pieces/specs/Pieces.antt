@@ -18,25 +18,28 @@ pub record Top : Type 0 where
   pub poly : Meaning
   pub factors : FactorList
 
+-- p_0, p_1, .., the quotient q0/r0 and the carrier K
 pub record Pieces : Type 0 where
   pub top : ℕ → Top
   pub q0 : FactorList
   pub r0 : FactorList
   pub carrier : ProperTerm
 
--- the part of a number below 0, and the magnitude of the part above it
+-- the part of a number below 0
 abbrev pub negative_part : ℤ → ℤ
 negative_part (pos m) = pos 0
 negative_part (negsuc m) = negsuc m
 
+-- the part of a number above 0
 abbrev pub positive_part : ℤ → ℤ
 positive_part (pos m) = pos m
 positive_part (negsuc m) = pos 0
 
--- a form at the n from n to n + J at which it is least, and at which it is greatest
+-- a form at the n from n to n + J at which it is least
 abbrev pub least_of : ℕ → LinearForm → LinearForm
 least_of order f = form_plus f (negative_part f.n_slope *ℤ pos order)
 
+-- a form at the n from n to n + J at which it is greatest
 abbrev pub greatest_of : ℕ → LinearForm → LinearForm
 greatest_of order f = form_plus f (positive_part f.n_slope *ℤ pos order)
 
@@ -59,6 +62,7 @@ shifts_but j (suc i) x = shifts_but j i x ++ cond (nat_eq j (suc i)) [] (factor_
 abbrev pub counted : ℕ → Factor → List Factor
 counted order x = cond (is_zero x.form.n_slope) (x ∷ []) (shifts_up_to order x)
 
+-- the same without the one at n + j
 abbrev pub counted_but : ℕ → ℕ → Factor → List Factor
 counted_but order j x = cond (is_zero x.form.n_slope) [] (shifts_but j order x)
 
@@ -80,46 +84,57 @@ at_next_k xs = map (λ x. factor_with (at_later_k x.form (pos 1)) x.power) xs
 abbrev pub top_forms : ProperTerm → ℕ → ℕ → List Factor
 top_forms f order j = from_each (above_least order j) f.up ++ (from_each (below_greatest order j) f.down ++ from_each (counted_but order j) f.over)
 
+-- (f + 1) .. (f + m) for a slope m of at least 0
 abbrev pub rising_where : ℤ → LinearForm → ℕ → List Factor
 rising_where (pos m) f power = forms_above f m power
 rising_where (negsuc m) f power = []
 
+-- f (f - 1) .. (f - m + 1) for a slope -m below 0
 abbrev pub falling_where : ℤ → LinearForm → ℕ → List Factor
 falling_where (pos m) f power = []
 falling_where (negsuc m) f power = forms_below f (suc m) power
 
--- what a factorial above gives to q0 and to r0, and what one below gives to r0 and to q0
+-- what a factorial above gives to q0
 abbrev pub rising_up : ℕ → Factor → List Factor
 rising_up order x = rising_where x.form.k_slope (least_of order x.form) x.power
 
+-- what a factorial above gives to r0
 abbrev pub falling_up : ℕ → Factor → List Factor
 falling_up order x = falling_where x.form.k_slope (least_of order x.form) x.power
 
+-- what a factorial below gives to r0
 abbrev pub rising_down : ℕ → Factor → List Factor
 rising_down order x = rising_where x.form.k_slope (greatest_of order x.form) x.power
 
+-- what a factorial below gives to q0
 abbrev pub falling_down : ℕ → Factor → List Factor
 falling_down order x = falling_where x.form.k_slope (greatest_of order x.form) x.power
 
+-- the form, where it has a k
 abbrev pub with_k : Factor → List Factor
 with_k x = cond (is_zero x.form.k_slope) [] (x ∷ [])
 
+-- the form, where it has no k
 abbrev pub without_k : Factor → List Factor
 without_k x = cond (is_zero x.form.k_slope) (x ∷ []) []
 
--- what a denominator gives to q0 and to r0, and what the carrier keeps of it
+-- what a denominator gives to q0
 abbrev pub cleared_over : ℕ → Factor → List Factor
 cleared_over order x = from_each with_k (counted order x)
 
+-- what a denominator gives to r0
 abbrev pub later_over : ℕ → Factor → List Factor
 later_over order x = from_each with_k (at_next_k (counted order x))
 
+-- what the carrier keeps of a denominator
 abbrev pub kept_over : ℕ → Factor → List Factor
 kept_over order x = from_each without_k (counted order x)
 
+-- the forms of q0
 abbrev pub q_forms : ProperTerm → ℕ → List Factor
 q_forms f order = from_each (rising_up order) f.up ++ (from_each (falling_down order) f.down ++ from_each (cleared_over order) f.over)
 
+-- the forms of r0
 abbrev pub r_forms : ProperTerm → ℕ → List Factor
 r_forms f order = from_each (falling_up order) f.up ++ (from_each (rising_down order) f.down ++ from_each (later_over order) f.over)
 
@@ -131,10 +146,11 @@ top_number f order j = pow f.n_base.top j *ℤ pow f.n_base.bottom (order - j)
 abbrev pub poly_at_later_n : Meaning → ℕ → Meaning
 poly_at_later_n p j = listed (trimmed (level 1).ops (map (poly_shift (level 0).ops (pos j)) (items p)))
 
--- the factorials of K above and below, and its denominators, in the order of the term's lists
+-- the factorials of K above, in the order of the term's list
 abbrev pub carrier_up : ℕ → List Factor → List Factor
 carrier_up order xs = map (λ x. factor_with (form_plus (least_of order x.form) (neg_ℤ (negative_part x.form.k_slope))) x.power) xs
 
+-- the factorials of K below
 abbrev pub carrier_down : ℕ → List Factor → List Factor
 carrier_down order xs = map (λ x. factor_with (form_plus (greatest_of order x.form) (neg_ℤ (positive_part x.form.k_slope))) x.power) xs
 
@@ -143,6 +159,7 @@ abbrev pub gathered_forms : List Factor → List Factor → List Factor
 gathered_forms done [] = done
 gathered_forms done (x ∷ xs) = gathered_forms (with_factor x.form x.power done) xs
 
+-- the carrier K: r0(k-1) H with factorials in the place of products
 abbrev pub carrier_of : ProperTerm → ℕ → ProperTerm
 carrier_of f order = record {
   poly = (level 2).ops.unit;

@@ -7,6 +7,7 @@ use Rattle.hypergeometric.specs.FormOrder.{IsSorted}
 use Rattle.lin_form.specs.FactorLists.{same_form, factor_with, power_of}
 use Rattle.term_classes.specs.Forms.{with_numbers, content_of_form, primitive_form}
 
+-- a form with a number added to its offset
 abbrev pub form_plus : LinearForm → ℤ → LinearForm
 form_plus f c = with_numbers f.n_slope f.k_slope (f.offset +ℤ c)
 

@@ -12,8 +12,9 @@ ghost use Rattle.term_pieces.specs.Products.{IsProductOf};
 ghost use Rattle.term_pieces.specs.Pieces.{Pieces, ArePiecesOf};
 ghost use Rattle.term_pieces.specs.PieceValues.{ShareValue};
 
-/// A number and forms are the product of one list only.
+/// A number and forms are the product of one list, and of one only.
 pub fn products_are_one_list()
+    ensures some { (number : ℤ) (forms : List Factor) → (l : FactorList) × IsProductOf l number forms }
     ensures only { (l m : FactorList) (number : ℤ) (forms : List Factor) → IsProductOf l number forms → IsProductOf m number forms → l ≡ m }
 {}
 
@@ -22,4 +23,18 @@ pub fn products_are_one_list()
 pub fn pieces_share_a_value()
     ensures shares { (f : ProperTerm) (pieces : Pieces) (order : ℕ) (n k : ℤ) → HasFractions f → ArePiecesOf pieces f order
         → ((j : ℕ) → j ≤ order → IsDefinedAt f (n +ℤ pos j) k) → ShareValue f pieces order n k }
+{}
+
+/// The pieces of a term at an order are fixed by it: q0, r0, the carrier, and p_0 to p_J.
+pub fn pieces_are_one()
+    ensures q0 { (f : ProperTerm) (order : ℕ) (x y : Pieces) → ArePiecesOf x f order → ArePiecesOf y f order → x.q0 ≡ y.q0 }
+    ensures r0 { (f : ProperTerm) (order : ℕ) (x y : Pieces) → ArePiecesOf x f order → ArePiecesOf y f order → x.r0 ≡ y.r0 }
+    ensures carrier { (f : ProperTerm) (order : ℕ) (x y : Pieces) → ArePiecesOf x f order → ArePiecesOf y f order → x.carrier ≡ y.carrier }
+    ensures tops { (f : ProperTerm) (order : ℕ) (x y : Pieces) → ArePiecesOf x f order → ArePiecesOf y f order
+        → (j : ℕ) → j ≤ order → x.top j ≡ y.top j }
+{}
+
+/// Each term has pieces at each order.
+pub fn pieces_exist()
+    ensures some { (f : ProperTerm) (order : ℕ) → (pieces : Pieces) × ArePiecesOf pieces f order }
 {}
