@@ -1,0 +1,12 @@
+pub mod Fractions
+pub mod ShiftFamilies
+pub mod NoPoles
+pub mod InsolubleFractions
+pub mod AnyDomain
+pub mod FormDivisors
+pub mod EqualForms
+pub mod SharedPrimes
+pub mod LaterForms
+pub mod NoSharedPrimes
+pub mod ProperLists
+pub mod NoCertificate

@@ -1,0 +1,2 @@
+pub mod CommonPrimes
+pub mod RationalCertificates
