@@ -1,0 +1,89 @@
+-- A term has its own value.
+use Rattle.std.proofs.Common.{◌≡◌, ℕ, zero, suc, ◌≤◌, List, [], ◌∷◌, refl, ap, sym, ◌∙◌, subst, arith}
+use Rattle.std.proofs.lemmas.Int.{ints}
+use Rattle.std.specs.List.{AllByRecursion}
+use Rattle.std.specs.Prelude.{ℤ, pos, negsuc, ◌*ℤ◌, ◌≤ℤ◌}
+use Rattle.ring_solver.proofs.Read.{ring_z, reading_z}
+use Rattle.hypergeometric.specs.Fraction.{IsDefined, ◌≈◌, of_whole, fraction_product, natural_power}
+use Rattle.hypergeometric.specs.LinearForm.{Factor, form_value, factorial, factorial_value, inverse_factorial_value, product_over}
+use Rattle.hypergeometric.specs.FormOrder.{IsFactor}
+use Rattle.hypergeometric.specs.ProperTerm.{ProperTerm, NoneNegative, IsDefinedAt, proper_value}
+use Rattle.hypergeometric.specs.TermFacts.{IsProper}
+use Rattle.hypergeometric.proofs.Definedness.{proper_value_defined}
+use Rattle.hypergeometric.proofs.FractionLaws.{one_not_zero, equal_to_itself, equal_turned, equal_products}
+use Rattle.term_classes.specs.ClassValues.{HasValue}
+use Rattle.term_classes.proofs.DefinedValues.{left_defined, right_defined, base_defined, value_defined}
+use Rattle.term_classes.proofs.FractionPowers.{product_one}
+use Rattle.term_classes.proofs.SharedForms.{AllSome, all_more}
+use Rattle.term_pieces.proofs.Factorials.{inverse_factorial_times}
+use Rattle.term_pieces.proofs.TimesPowers.{equal_powers}
+use Rattle.claim_laws.specs.OwnValues.{guard_value, own_value}
+use Rattle.claim_laws.proofs.CertifiedClaims.{has_fractions}
+
+-- x!/x! is 1 from 0 on
+guard_one : (z : ℤ) → pos 0 ≤ℤ z → guard_value z ≈ of_whole (pos 1)
+guard_one (pos m) h = record {
+  left_defined = λ e. (inverse_factorial_times (pos m) 0).left_defined (sym (once (pos (factorial m))) ∙ e);
+  right_defined = one_not_zero;
+  cross = same (pos (factorial m));
+}
+  where
+    once : (x : ℤ) → pos 1 *ℤ x ≡ x
+    once x = ring_z (x ∷ []) (search reading_z depth 40 fits 20000) refl
+
+    same : (x : ℤ) → (x *ℤ pos 1) *ℤ pos 1 ≡ pos 1 *ℤ (pos 1 *ℤ x)
+    same x = ring_z (x ∷ []) (search reading_z depth 40 fits 20000) refl
+guard_one (negsuc m) h = absurd (omega (arith, ints, h))
+
+guard_natural : (z : ℤ) → IsDefined (guard_value z) → pos 0 ≤ℤ z
+guard_natural (pos m) d = omega (arith, ints)
+guard_natural (negsuc m) d = absurd (left_defined (factorial_value (negsuc m)) (inverse_factorial_value (negsuc m)) d refl)
+
+one_power : (e : ℕ) → natural_power (of_whole (pos 1)) e ≡ of_whole (pos 1)
+one_power zero = refl
+one_power (suc e) = ap (fraction_product (of_whole (pos 1))) (one_power e)
+
+module _ (n k : ℤ) where
+  guards_one : (xs : List Factor) → NoneNegative xs n k → product_over guard_value xs n k ≈ of_whole (pos 1)
+  guards_one [] h = equal_to_itself (of_whole (pos 1)) one_not_zero
+  guards_one (x ∷ xs) (h, hs) =
+      equal_products
+      (subst (λ z. natural_power (guard_value (form_value x.form n k)) x.power ≈ z) (one_power x.power)
+      (equal_powers x.power (guard_one (form_value x.form n k) h)))
+      (guards_one xs hs)
+
+  guards_natural : (xs : List Factor) → AllSome xs → IsDefined (product_over guard_value xs n k) → NoneNegative xs n k
+  guards_natural [] some d = tt
+  guards_natural (x ∷ xs) some d =
+      let one = natural_power (guard_value (form_value x.form n k)) x.power in (
+        guard_natural (form_value x.form n k)
+            (base_defined (guard_value (form_value x.form n k)) x.power some.0 (left_defined one (product_over guard_value xs n k) d)),
+        guards_natural xs some.1 (right_defined one (product_over guard_value xs n k) d),
+      )
+
+factors_some : (xs : List Factor) → AllByRecursion IsFactor xs → AllSome xs
+factors_some xs h = all_more IsFactor (λ x. 1 ≤ x.power) (λ x p. p.some) xs h
+
+module _ (f : ProperTerm) (proper : IsProper f) where
+  value_is_own : (n k : ℤ) → IsDefinedAt f n k → proper_value f n k ≈ own_value f n k
+  value_is_own n k d =
+      let own = proper_value f n k in
+      subst (λ z. z ≈ own_value f n k) (product_one own)
+      (equal_products (equal_to_itself own (proper_value_defined f n k (has_fractions f proper) d)) (equal_turned (guards_one n k f.guard d.guard)))
+
+  own_defined : (n k : ℤ) → IsDefined (own_value f n k) → IsDefinedAt f n k
+  own_defined n k d =
+      let lists = value_defined n k f (factors_some f.up proper.up.each) (factors_some f.over proper.over.each)
+      (left_defined (proper_value f n k) (product_over guard_value f.guard n k) d) in
+      record {
+        up = lists.0;
+        guard = guards_natural n k f.guard (factors_some f.guard proper.guard.each)
+            (right_defined (proper_value f n k) (product_over guard_value f.guard n k) d);
+        over = lists.1;
+      }
+
+  pub has_own_value : HasValue f (own_value f)
+  has_own_value = record {
+    defined = λ n k. ((λ d. (value_is_own n k d).right_defined), own_defined n k);
+    equal = value_is_own;
+  }

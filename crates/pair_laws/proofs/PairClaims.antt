@@ -1,0 +1,127 @@
+-- The claim of a pair is a recurrence of order 1 with the multipliers -a and a, so it telescopes, and its natural sums vanish.
+use Rattle.std.proofs.Common.{◌≡◌, ℕ, zero, suc, ◌<◌, [], ◌∷◌, Some, refl, ap, sym, ◌∙◌, subst, arith}
+use Rattle.std.proofs.lemmas.Int.{ints}
+use Rattle.std.specs.Prelude.{ℤ, pos, neg_ℤ, ◌+ℤ◌, ◌*ℤ◌, ◌≤ℤ◌}
+use Rattle.ring_solver.proofs.Read.{ring_z, reading_z}
+use Rattle.ring_laws.specs.Meaning.{Meaning}
+use Rattle.poly_laws.specs.Values.{level}
+use Rattle.poly_laws.proofs.Keeps.{value_at_keeps}
+use Rattle.hypergeometric.specs.Fraction.{Fraction, ◌≈◌, of_whole, fraction_sum, fraction_difference, fraction_product, sum_over_range}
+use Rattle.hypergeometric.specs.LinearForm.{LinearForm}
+use Rattle.hypergeometric.specs.ProperTerm.{ProperTerm, value_in_n}
+use Rattle.hypergeometric.specs.TermFacts.{IsProper}
+use Rattle.hypergeometric.specs.Claim.{Claim, left_side, certificate}
+use Rattle.hypergeometric.specs.Telescopes.{Telescopes, between_ends}
+use Rattle.term_classes.specs.ClassValues.{HasValue}
+use Rattle.term_classes.proofs.FractionPowers.{fraction_same}
+use Rattle.term_pieces.specs.Pieces.{Pieces, ArePiecesOf}
+use Rattle.term_pieces.specs.PieceValues.{top_value}
+use Rattle.hypergeometric.specs.NaturalRange.{natural_range}
+use Rattle.division_laws.specs.Polynomials.{constant}
+use Rattle.claim_laws.specs.Identity.{poly_difference}
+use Rattle.term_pieces.specs.Tops.{top_polynomial}
+use Rattle.claim_laws.specs.Certified.{HasPieces}
+use Rattle.sum_laws.specs.NaturalSums.{Ends, ends_of, natural_sum}
+use Rattle.pair_laws.specs.CertifiedPairs.{pair_of_tops, IsCertifiedPair}
+use Rattle.pair_laws.specs.Pairs.{pair_side, IsPair, PairSumsVanish}
+use Rattle.claim_laws.proofs.CertifiedClaims.{has_fractions, claim_telescopes}
+use Rattle.claim_laws.proofs.IdentityValues.{sum_of_multiples, product_of, difference_of, constant_is, top_is, IdentityAt, identity_at}
+use Rattle.sum_laws.proofs.NaturalClaims.{natural_sums_vanish}
+use Rattle.sum_laws.proofs.NaturalEnds.{GiveEnds}
+use Rattle.sum_laws.proofs.NaturalRanges.{natural_ends}
+
+-- the recurrence -a Q(n,k) + a Q(n+1,k)
+abbrev pub pair_recurrence : Meaning → Claim → Claim
+pair_recurrence a c = record c { multipliers = (level 1).ops.neg a ∷ a ∷ [] }
+
+negated : (a : Meaning) (n : ℤ) → value_in_n ((level 1).ops.neg a) n ≡ neg_ℤ (value_in_n a n)
+negated a n = (value_at_keeps (n ∷ [])).neg a
+
+-- x (g - f) is -x f + (x g + 0)
+times_difference : (x : ℤ) (f g : Fraction)
+    → fraction_product (of_whole x) (fraction_difference g f)
+    ≡ fraction_sum (fraction_product (of_whole (neg_ℤ x)) f) (fraction_sum (fraction_product (of_whole x) g) (of_whole (pos 0)))
+times_difference x f g = fraction_same (tops x f.top f.bottom g.top g.bottom) (bottoms f.bottom g.bottom)
+  where
+    tops : (x a b c d : ℤ)
+        → x *ℤ (c *ℤ b +ℤ neg_ℤ a *ℤ d) ≡ (neg_ℤ x *ℤ a) *ℤ ((pos 1 *ℤ d) *ℤ pos 1) +ℤ ((x *ℤ c) *ℤ pos 1 +ℤ pos 0 *ℤ (pos 1 *ℤ d)) *ℤ (pos 1 *ℤ b)
+    tops x a b c d = ring_z (x ∷ a ∷ b ∷ c ∷ d ∷ []) (search reading_z depth 40 fits 20000) refl
+
+    bottoms : (b d : ℤ) → pos 1 *ℤ (d *ℤ b) ≡ (pos 1 *ℤ b) *ℤ ((pos 1 *ℤ d) *ℤ pos 1)
+    bottoms b d = ring_z (b ∷ d ∷ []) (search reading_z depth 40 fits 20000) refl
+
+-- the two left sides are the same
+same_side : (value : ℤ → ℤ → Fraction) (a : Meaning) (c : Claim) (n k : ℤ) → left_side value (pair_recurrence a c) n k ≡ pair_side value a n k
+same_side value a c n k =
+    ap (λ x. fraction_sum (fraction_product (of_whole x) (value n k))
+    (fraction_sum (fraction_product (of_whole (value_in_n a n)) (value (n +ℤ pos 1) k)) (of_whole (pos 0)))) (negated a n)
+    ∙ sym (times_difference (value_in_n a n) (value n k) (value (n +ℤ pos 1) k))
+
+-- a (p_1 - p_0) is -a p_0 + (a p_1 + 0)
+numbers_are : (top : ℕ → ℤ) (a : Meaning) (n : ℤ)
+    → value_in_n a n *ℤ (top 1 +ℤ neg_ℤ (top 0)) ≡ sum_of_multiples top ((level 1).ops.neg a ∷ a ∷ []) n 0
+numbers_are top a n =
+    spread (value_in_n a n) (top 0) (top 1) ∙ ap (λ z. z *ℤ top 0 +ℤ (value_in_n a n *ℤ top 1 +ℤ pos 0)) (sym (negated a n))
+  where
+    spread : (x t u : ℤ) → x *ℤ (u +ℤ neg_ℤ t) ≡ neg_ℤ x *ℤ t +ℤ (x *ℤ u +ℤ pos 0)
+    spread x t u = ring_z (x ∷ t ∷ u ∷ []) (search reading_z depth 40 fits 20000) refl
+
+module _ (f : ProperTerm) (value : ℤ → ℤ → Fraction) (pieces : Pieces) (a : Meaning) (c : Claim)
+    (proper : IsProper f) (has : HasValue f value) (are : ArePiecesOf pieces f 1) (certified : IsCertifiedPair c a pieces) where
+  goes : HasPieces (pair_recurrence a c) pieces
+  goes = record {
+    carrier = certified.goes_with.carrier;
+    ratio_top = certified.goes_with.ratio_top;
+    ratio_bottom = certified.goes_with.ratio_bottom;
+  }
+
+  identity : (n k : ℤ) → IdentityAt n k pieces (pair_recurrence a c)
+      (sum_of_multiples (λ j. top_value (pieces.top j) n k) ((level 1).ops.neg a ∷ a ∷ []) n 0)
+  identity n k =
+      let p0 = top_polynomial (pieces.top 0) in
+      let p1 = top_polynomial (pieces.top 1) in
+      subst (λ s. IdentityAt n k pieces (pair_recurrence a c) s)
+      (product_of n k (constant (level 1).ops a) (poly_difference p1 p0) _ _ (constant_is n k a)
+      (difference_of n k p1 p0 _ _ (top_is n k (pieces.top 1)) (top_is n k (pieces.top 0)))
+      ∙ numbers_are (λ j. top_value (pieces.top j) n k) a n)
+      (identity_at n k pieces c (pair_of_tops pieces.top a) certified.identity)
+
+  recurrence_telescopes : Telescopes value f.poly (pair_recurrence a c)
+  recurrence_telescopes = claim_telescopes f value pieces 1 (pair_recurrence a c) (has_fractions f proper) has are goes refl identity
+
+  pub pair_telescopes : IsPair value f.poly a c
+  pair_telescopes = record {
+    points = λ n k both here next.
+        let at = recurrence_telescopes.points n k (both.0, (both.1, tt)) here next in
+        record {
+          carrier_here = at.carrier_here;
+          carrier_next = at.carrier_next;
+          equal = subst (λ z. z ≈ fraction_difference (certificate c n (k +ℤ pos 1)) (certificate c n k)) (same_side value a c n k) at.equal;
+        };
+    ranges = λ n lo count both poles.
+        subst (λ (g : ℤ → Fraction). sum_over_range g lo count ≈ between_ends (certificate c n) lo count) (λ i k. same_side value a c n k i)
+        (recurrence_telescopes.ranges n lo count (λ i l. ((both i l).0, ((both i l).1, tt))) poles);
+    ratio = λ n k both carrier off. recurrence_telescopes.ratio n k (both.0, (both.1, tt)) carrier off;
+  }
+
+  pub pair_sums_vanish : (ends : Ends) → GiveEnds f ends → PairSumsVanish value ends a c
+  pair_sums_vanish ends give n lowest highest between both poles =
+      let s : ℤ → Fraction = natural_sum value ends in
+      subst (λ z. z ≈ of_whole (pos 0)) (same_side (λ m k. s m) a c n (pos 0))
+      (natural_sums_vanish f value ends 1 (pair_recurrence a c) has give
+      (certified.goes_with.carrier ∙ are.carrier) refl recurrence_telescopes.ranges n lowest highest each
+      (record { defined = λ k l u. ((both k l u).0, ((both k l u).1, tt)); poles = poles }))
+    where
+      here : n +ℤ pos 0 ≡ n
+      here = omega (arith, ints)
+
+      each : (j : ℕ) → j < 2 → (lowest ≤ℤ ends.low (n +ℤ pos j)) × (ends.high (n +ℤ pos j) ≤ℤ highest)
+      each zero l = (
+        subst (λ (m : ℤ). lowest ≤ℤ ends.low m) (sym here) between.low_here,
+        subst (λ (m : ℤ). ends.high m ≤ℤ highest) (sym here) between.high_here,
+      )
+      each (suc zero) l = (between.low_next, between.high_next)
+      each (suc (suc j)) l = absurd (omega (arith, l))
+
+  pub natural_sums_of_pair : (ends : LinearForm × LinearForm) → natural_range f.down ≡ Some ends → PairSumsVanish value (ends_of ends) a c
+  natural_sums_of_pair ends e = pair_sums_vanish (ends_of ends) (natural_ends f ends proper.down.each e)
