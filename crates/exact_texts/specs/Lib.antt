@@ -1,0 +1,11 @@
+pub mod Texts
+pub mod Formats
+pub mod Lines
+pub mod FirstBadLine
+pub mod Lists
+pub mod Nothing
+pub mod Numbers
+pub mod Sums
+pub mod SumWriting
+pub mod Beside
+pub mod Powered

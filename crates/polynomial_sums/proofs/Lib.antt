@@ -1,0 +1,5 @@
+pub mod Powers
+pub mod Letters
+pub mod Telling
+pub mod Bounds
+mod KnownPolynomials

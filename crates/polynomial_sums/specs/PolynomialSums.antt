@@ -1,0 +1,58 @@
+-- The monomials of a polynomial, by falling powers of its letters, and its text.
+use Rattle.std.specs.Prelude.{ℕ, zero, suc, IsTrue, ℤ, pos, negsuc, List, [], ◌∷◌, ◌++◌, map, length}
+use Rattle.ring_laws.specs.Meaning.{Meaning, items}
+use Rattle.ring_laws.specs.Wholes.{number_of}
+use Rattle.poly_laws.specs.Values.{level}
+use Rattle.exact_texts.specs.Formats.{Format}
+use Rattle.exact_texts.specs.Sums.{Monomial, sum_text}
+
+-- a letter of a polynomial
+pub data Letter : Type 0 where
+  letter_n : Letter
+  letter_k : Letter
+  letter_x : Letter
+
+-- the power of a letter in a monomial
+abbrev pub power_in : Letter → Monomial → ℕ
+power_in letter_n m = m.n_power
+power_in letter_k m = m.k_power
+power_in letter_x m = m.x_power
+
+-- the monomial with another power of a letter
+abbrev pub with_power : Letter → ℕ → Monomial → Monomial
+with_power letter_n p m = record m { n_power = p }
+with_power letter_k p m = record m { k_power = p }
+with_power letter_x p m = record m { x_power = p }
+
+-- the monomials of a number, which has none where it is 0
+abbrev pub constant : ℤ → List Monomial
+constant (pos zero) = []
+constant (pos (suc n)) = record { coefficient = pos (suc n); n_power = 0; k_power = 0; x_power = 0 } ∷ []
+constant (negsuc n) = record { coefficient = negsuc n; n_power = 0; k_power = 0; x_power = 0 } ∷ []
+
+-- the monomials of coefficients from a power of a letter on, the greatest power first
+abbrev pub falling : Letter → (Meaning → List Monomial) → List Meaning → ℕ → List Monomial
+falling l inner [] i = []
+falling l inner (c ∷ cs) i = falling l inner cs (suc i) ++ map (with_power l i) (inner c)
+
+-- the monomials of a polynomial in these letters, the outermost first
+abbrev pub monomials_of : List Letter → Meaning → List Monomial
+monomials_of [] m = constant (number_of m)
+monomials_of (l ∷ ls) m = falling l (monomials_of ls) (items m) 0
+
+-- a polynomial in so many letters: trimmed lists of at most 256 coefficients, numbers below 2^127 in magnitude
+pub record IsPolynomial (letters : ℕ) (p : Meaning) : Type 0 where
+  pub passes : IsTrue ((level letters).passes p)
+  pub fits : (level letters).ops.Fits p
+
+-- polynomials in these letters, spelled as the sums of their monomials
+abbrev pub polynomials : List Letter → Format Meaning
+polynomials ls = record { Has = IsPolynomial (length ls); text = λ p. sum_text (monomials_of ls p) }
+
+-- in n and k: by falling power of k, then of n
+abbrev pub in_n_k : List Letter
+in_n_k = letter_k ∷ letter_n ∷ []
+
+-- in n, k and x: by falling power of k, then of n, then of x
+abbrev pub in_n_k_x : List Letter
+in_n_k_x = letter_k ∷ letter_n ∷ letter_x ∷ []
