@@ -1,0 +1,9 @@
+pub mod Recurrences
+pub mod PolynomialSolutions
+pub mod Cases
+pub mod Solutions
+pub mod DegreeBounds
+pub mod SolutionRows
+pub mod ReducedLists
+pub mod Quotients
+pub mod FactorProducts
