@@ -3,6 +3,7 @@ use Rattle.std.proofs.Common.{ℕ, zero, suc, ◌<◌, arith, List, [], ◌∷�
 use Rattle.std.proofs.lemmas.Int.{ints}
 use Rattle.std.specs.Prelude.{ℤ, pos, negsuc, ◌≤ℤ◌}
 use Rattle.hypergeometric.proofs.FractionLaws.{one_not_zero, product_not_zero}
+use Rattle.hypergeometric.specs.Point.{Point}
 use Rattle.hypergeometric.specs.Fraction.{Fraction, IsDefined, of_whole, fraction_inverse, natural_power, whole_power}
 use Rattle.hypergeometric.specs.LinearForm.{Factor, form_value, factorial, factorial_value, inverse_factorial_value, product_over}
 use Rattle.hypergeometric.specs.ProperTerm.{ProperTerm, NoneNegative, NoneZero, IsDefinedAt, proper_value, IsNonzero, HasFractions}
@@ -30,27 +31,27 @@ inverse_factorial_value_defined : (z : ℤ) → IsDefined (inverse_factorial_val
 inverse_factorial_value_defined (pos m) = λ e. omega (arith, ints, e, factorial_positive m)
 inverse_factorial_value_defined (negsuc m) = one_not_zero
 
-up_defined : (xs : List Factor) (n k : ℤ) → NoneNegative xs n k → IsDefined (product_over factorial_value xs n k)
-up_defined [] n k h = one_not_zero
-up_defined (x ∷ xs) n k h =
-    product_not_zero _ _ (natural_power_defined _ x.power (factorial_value_defined _ h.0)) (up_defined xs n k h.1)
+up_defined : (xs : List Factor) (p : Point) → NoneNegative xs p → IsDefined (product_over factorial_value xs p)
+up_defined [] p h = one_not_zero
+up_defined (x ∷ xs) p h =
+    product_not_zero _ _ (natural_power_defined _ x.power (factorial_value_defined _ h.0)) (up_defined xs p h.1)
 
-down_defined : (xs : List Factor) (n k : ℤ) → IsDefined (product_over inverse_factorial_value xs n k)
-down_defined [] n k = one_not_zero
-down_defined (x ∷ xs) n k =
-    product_not_zero _ _ (natural_power_defined _ x.power (inverse_factorial_value_defined _)) (down_defined xs n k)
+down_defined : (xs : List Factor) (p : Point) → IsDefined (product_over inverse_factorial_value xs p)
+down_defined [] p = one_not_zero
+down_defined (x ∷ xs) p =
+    product_not_zero _ _ (natural_power_defined _ x.power (inverse_factorial_value_defined _)) (down_defined xs p)
 
-over_defined : (xs : List Factor) (n k : ℤ) → NoneZero xs n k → IsDefined (product_over (λ z. fraction_inverse (of_whole z)) xs n k)
-over_defined [] n k h = one_not_zero
-over_defined (x ∷ xs) n k h =
+over_defined : (xs : List Factor) (p : Point) → NoneZero xs p → IsDefined (product_over (λ z. fraction_inverse (of_whole z)) xs p)
+over_defined [] p h = one_not_zero
+over_defined (x ∷ xs) p h =
     product_not_zero _ _
-    (natural_power_defined (fraction_inverse (of_whole (form_value x.form n k))) x.power (product_not_zero _ _ h.0 one_not_zero))
-    (over_defined xs n k h.1)
+    (natural_power_defined (fraction_inverse (of_whole (form_value x.form p))) x.power (product_not_zero _ _ h.0 one_not_zero))
+    (over_defined xs p h.1)
 
-pub proper_value_defined : (f : ProperTerm) (n k : ℤ) → HasFractions f → IsDefinedAt f n k → IsDefined (proper_value f n k)
-proper_value_defined f n k t d =
+pub proper_value_defined : (f : ProperTerm) (p : Point) → HasFractions f → IsDefinedAt f p → IsDefined (proper_value f p)
+proper_value_defined f p t d =
     product_not_zero _ _ t.scale.bottom (product_not_zero _ _ one_not_zero
-    (product_not_zero _ _ (whole_power_defined f.n_base n t.n_base)
-    (product_not_zero _ _ (whole_power_defined f.k_base k t.k_base)
-    (product_not_zero _ _ (up_defined f.up n k d.up)
-    (product_not_zero _ _ (down_defined f.down n k) (over_defined f.over n k d.over))))))
+    (product_not_zero _ _ (whole_power_defined f.n_base p.n t.n_base)
+    (product_not_zero _ _ (whole_power_defined f.k_base p.k t.k_base)
+    (product_not_zero _ _ (up_defined f.up p d.up)
+    (product_not_zero _ _ (down_defined f.down p) (over_defined f.over p d.over))))))

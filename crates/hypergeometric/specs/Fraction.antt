@@ -49,8 +49,3 @@ natural_power f (suc n) = fraction_product f (natural_power f n)
 abbrev pub whole_power : Fraction → ℤ → Fraction
 whole_power f (pos n) = natural_power f n
 whole_power f (negsuc n) = natural_power (fraction_inverse f) (suc n)
-
--- f lo + f (lo + 1) + .., `count` summands
-abbrev pub sum_over_range : (ℤ → Fraction) → ℤ → ℕ → Fraction
-sum_over_range f lo zero = of_whole (pos 0)
-sum_over_range f lo (suc count) = fraction_sum (sum_over_range f lo count) (f (lo +ℤ pos count))

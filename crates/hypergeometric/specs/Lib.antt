@@ -1,4 +1,5 @@
 pub mod Fraction
+pub mod Point
 pub mod LinearForm
 pub mod FormOrder
 pub mod ProperTerm

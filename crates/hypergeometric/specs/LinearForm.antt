@@ -1,6 +1,7 @@
 -- Linear forms in n and k, factorials of whole numbers, and products of forms with their powers (A=B 4.4).
 use Rattle.std.specs.Prelude.{ℕ, zero, suc, ◌*◌, ℤ, pos, negsuc, ◌+ℤ◌, ◌*ℤ◌, List, [], ◌∷◌}
 use lib.IntN.{pow}
+use Rattle.hypergeometric.specs.Point.{Point}
 use Rattle.hypergeometric.specs.Fraction.{Fraction, of_whole, undefined_value, fraction_product, natural_power}
 
 -- n_slope * n + k_slope * k + offset
@@ -9,8 +10,8 @@ pub record LinearForm : Type 0 where
   pub k_slope : ℤ
   pub offset : ℤ
 
-abbrev pub form_value : LinearForm → ℤ → ℤ → ℤ
-form_value f n k = f.n_slope *ℤ n +ℤ f.k_slope *ℤ k +ℤ f.offset
+abbrev pub form_value : LinearForm → Point → ℤ
+form_value f p = f.n_slope *ℤ p.n +ℤ f.k_slope *ℤ p.k +ℤ f.offset
 
 abbrev pub factorial : ℕ → ℕ
 factorial zero = 1
@@ -37,14 +38,14 @@ pub record FactorList : Type 0 where
   pub factors : List Factor
 
 -- the product of f of the value of each form, as often as its power says
-abbrev pub product_over : (ℤ → Fraction) → List Factor → ℤ → ℤ → Fraction
-product_over f [] n k = of_whole (pos 1)
-product_over f (x ∷ xs) n k = fraction_product (natural_power (f (form_value x.form n k)) x.power) (product_over f xs n k)
+abbrev pub product_over : (ℤ → Fraction) → List Factor → Point → Fraction
+product_over f [] p = of_whole (pos 1)
+product_over f (x ∷ xs) p = fraction_product (natural_power (f (form_value x.form p)) x.power) (product_over f xs p)
 
 -- the product of the values of the forms themselves
-abbrev pub forms_value : List Factor → ℤ → ℤ → ℤ
-forms_value [] n k = pos 1
-forms_value (x ∷ xs) n k = pow (form_value x.form n k) x.power *ℤ forms_value xs n k
+abbrev pub forms_value : List Factor → Point → ℤ
+forms_value [] p = pos 1
+forms_value (x ∷ xs) p = pow (form_value x.form p) x.power *ℤ forms_value xs p
 
-abbrev pub factor_list_value : FactorList → ℤ → ℤ → ℤ
-factor_list_value l n k = l.scale *ℤ forms_value l.factors n k
+abbrev pub factor_list_value : FactorList → Point → ℤ
+factor_list_value l p = l.scale *ℤ forms_value l.factors p

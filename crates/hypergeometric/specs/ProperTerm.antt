@@ -4,6 +4,7 @@
 use Rattle.std.specs.Prelude.{◌≢◌, ℤ, pos, ◌≤ℤ◌, List, [], ◌∷◌}
 use Rattle.ring_laws.specs.Meaning.{Meaning}
 use Rattle.poly_laws.specs.Values.{value_at}
+use Rattle.hypergeometric.specs.Point.{Point, values, values_in_n}
 use Rattle.hypergeometric.specs.Fraction.{Fraction, of_whole, fraction_product, fraction_inverse, whole_power}
 use Rattle.hypergeometric.specs.LinearForm.{Factor, form_value, product_over, factorial_value, inverse_factorial_value}
 
@@ -19,33 +20,33 @@ pub record ProperTerm : Type 0 where
   pub guard : List Factor
 
 -- the value of a polynomial in k and n
-abbrev pub poly_value : Meaning → ℤ → ℤ → ℤ
-poly_value p n k = value_at (k ∷ n ∷ []) p
+abbrev pub poly_value : Meaning → Point → ℤ
+poly_value poly p = value_at (values p) poly
 
 -- the value of a polynomial in n
-abbrev pub value_in_n : Meaning → ℤ → ℤ
-value_in_n p n = value_at (n ∷ []) p
+abbrev pub value_in_n : Meaning → Point → ℤ
+value_in_n poly p = value_at (values_in_n p) poly
 
-abbrev pub NoneNegative : List Factor → ℤ → ℤ → Type 0
-NoneNegative [] n k = Unit {0}
-NoneNegative (x ∷ xs) n k = (pos 0 ≤ℤ form_value x.form n k) × NoneNegative xs n k
+abbrev pub NoneNegative : List Factor → Point → Type 0
+NoneNegative [] p = Unit {0}
+NoneNegative (x ∷ xs) p = (pos 0 ≤ℤ form_value x.form p) × NoneNegative xs p
 
-abbrev pub NoneZero : List Factor → ℤ → ℤ → Type 0
-NoneZero [] n k = Unit {0}
-NoneZero (x ∷ xs) n k = (form_value x.form n k ≢ pos 0) × NoneZero xs n k
+abbrev pub NoneZero : List Factor → Point → Type 0
+NoneZero [] p = Unit {0}
+NoneZero (x ∷ xs) p = (form_value x.form p ≢ pos 0) × NoneZero xs p
 
--- the term is defined at (n, k)
-pub record IsDefinedAt (f : ProperTerm) (n k : ℤ) : Type 0 where
-  pub up : NoneNegative f.up n k
-  pub guard : NoneNegative f.guard n k
-  pub over : NoneZero f.over n k
+-- the term is defined at a point
+pub record IsDefinedAt (f : ProperTerm) (p : Point) : Type 0 where
+  pub up : NoneNegative f.up p
+  pub guard : NoneNegative f.guard p
+  pub over : NoneZero f.over p
 
-abbrev pub proper_value : ProperTerm → ℤ → ℤ → Fraction
-proper_value f n k =
-    fraction_product f.scale (fraction_product (of_whole (poly_value f.poly n k))
-    (fraction_product (whole_power f.n_base n) (fraction_product (whole_power f.k_base k)
-    (fraction_product (product_over factorial_value f.up n k) (fraction_product (product_over inverse_factorial_value f.down n k)
-    (product_over (λ z. fraction_inverse (of_whole z)) f.over n k))))))
+abbrev pub proper_value : ProperTerm → Point → Fraction
+proper_value f p =
+    fraction_product f.scale (fraction_product (of_whole (poly_value f.poly p))
+    (fraction_product (whole_power f.n_base p.n) (fraction_product (whole_power f.k_base p.k)
+    (fraction_product (product_over factorial_value f.up p) (fraction_product (product_over inverse_factorial_value f.down p)
+    (product_over (λ z. fraction_inverse (of_whole z)) f.over p))))))
 
 -- defined and not 0
 pub record IsNonzero (f : Fraction) : Type 0 where

@@ -1,10 +1,10 @@
 //! Proper hypergeometric terms, trees of terms, recurrences with their certificates: the definitions that contracts cite.
 //!
-//! `specs/` has the definitions, in this order: Fraction, LinearForm, ProperTerm, Tree, TreePolynomial, TreeValue, Claim, Telescopes.
+//! `specs/` has the definitions, in this order: Fraction, Point, LinearForm, ProperTerm, Tree, TreePolynomial, TreeValue, Claim, Telescopes.
 //! `proofs/` has their laws. The functions here do nothing: the contract of each is a law.
 #![tactic(auto)]
 
-ghost use Rattle.std.specs.Prelude.{ℤ};
+ghost use Rattle.hypergeometric.specs.Point.{Point};
 ghost use Rattle.hypergeometric.specs.Fraction.{Fraction};
 ghost use Rattle.hypergeometric.specs.ProperTerm.{HasFractions};
 ghost use Rattle.hypergeometric.specs.Claim.{Claim};
@@ -12,5 +12,5 @@ ghost use Rattle.hypergeometric.specs.Telescopes.{TelescopesAtPoints, Telescopes
 
 /// What telescopes at each point telescopes over every finite range: for every term and every claim of any order.
 pub fn points_give_ranges()
-    ensures ranges { (f : ℤ → ℤ → Fraction) (c : Claim) → HasFractions c.carrier → TelescopesAtPoints f c → TelescopesOverRanges f c }
+    ensures ranges { (f : Point → Fraction) (c : Claim) → HasFractions c.carrier → TelescopesAtPoints f c → TelescopesOverRanges f c }
 {}
