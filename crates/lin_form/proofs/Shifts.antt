@@ -3,6 +3,7 @@ use Rattle.std.specs.Prelude.{◌≡◌, ◌≢◌, ℕ, ℤ, pos, ◌+ℤ◌, �
 use Rattle.std.proofs.Common.{arith, sym, ◌∙◌, ap}
 use Rattle.std.proofs.lemmas.Int.{ints}
 use Rattle.ring_solver.proofs.Read.{ring_z, reading_z}
+use Rattle.hypergeometric.specs.Point.{Point, point, later_n, later_k}
 use Rattle.hypergeometric.specs.LinearForm.{LinearForm, form_value}
 use Rattle.lin_form.specs.Forms.{form_with, IsMatchAt}
 
@@ -14,13 +15,13 @@ k_moved s t c by n k = ring_z (s ∷ t ∷ c ∷ by ∷ n ∷ k ∷ []) (search 
 
 -- the form with the offset moved by the n slope times a number is the form at an n moved by that number
 pub n_shifted : (s t c by s' t' c' : ℤ) → s' ≡ s → t' ≡ t → c' ≡ c +ℤ s *ℤ by
-    → (n k : ℤ) → form_value (form_with s' t' c') n k ≡ form_value (form_with s t c) (n +ℤ by) k
-n_shifted s t c by s' t' c' p q r n k = (λ i. p i *ℤ n +ℤ q i *ℤ k +ℤ r i) ∙ n_moved s t c by n k
+    → (at : Point) → form_value (form_with s' t' c') at ≡ form_value (form_with s t c) (later_n at by)
+n_shifted s t c by s' t' c' p q r at = (λ i. p i *ℤ at.n +ℤ q i *ℤ at.k +ℤ r i) ∙ n_moved s t c by at.n at.k
 
 -- and so for k
 pub k_shifted : (s t c by s' t' c' : ℤ) → s' ≡ s → t' ≡ t → c' ≡ c +ℤ t *ℤ by
-    → (n k : ℤ) → form_value (form_with s' t' c') n k ≡ form_value (form_with s t c) n (k +ℤ by)
-k_shifted s t c by s' t' c' p q r n k = (λ i. p i *ℤ n +ℤ q i *ℤ k +ℤ r i) ∙ k_moved s t c by n k
+    → (at : Point) → form_value (form_with s' t' c') at ≡ form_value (form_with s t c) (later_k at by)
+k_shifted s t c by s' t' c' p q r at = (λ i. p i *ℤ at.n +ℤ q i *ℤ at.k +ℤ r i) ∙ k_moved s t c by at.n at.k
 
 -- forms of equal slopes match where the k slope times the shift is the difference of the offsets
 pub matching : (f g : LinearForm) (h : ℕ) → f.n_slope ≡ g.n_slope → f.k_slope ≡ g.k_slope → f.offset ≡ g.offset +ℤ g.k_slope *ℤ pos h → IsMatchAt f g h
@@ -47,18 +48,18 @@ later_one_k s t c h = ring_z (s ∷ t ∷ c ∷ h ∷ []) (search reading_z dept
 -- at the point (0, 0), (1, 0) and (0, 1) a match tells the offset and the slopes
 pub matched_offset : (f g : LinearForm) (h : ℕ) → IsMatchAt f g h → f.offset ≡ g.offset +ℤ g.k_slope *ℤ pos h
 matched_offset f g h m =
-    sym (at_origin f.n_slope f.k_slope f.offset) ∙ m (pos 0) (pos 0) ∙ later_origin g.n_slope g.k_slope g.offset (pos h)
+    sym (at_origin f.n_slope f.k_slope f.offset) ∙ m (point (pos 0) (pos 0)) ∙ later_origin g.n_slope g.k_slope g.offset (pos h)
 
 pub matched_n_slope : (f g : LinearForm) (h : ℕ) → IsMatchAt f g h → f.n_slope ≡ g.n_slope
 matched_n_slope f g h m =
     let e : f.n_slope +ℤ f.offset ≡ g.n_slope +ℤ (g.offset +ℤ g.k_slope *ℤ pos h) = sym (at_one_n f.n_slope f.k_slope f.offset)
-    ∙ m (pos 1) (pos 0) ∙ later_one_n g.n_slope g.k_slope g.offset (pos h) in
+    ∙ m (point (pos 1) (pos 0)) ∙ later_one_n g.n_slope g.k_slope g.offset (pos h) in
     omega (arith, ints, e, matched_offset f g h m)
 
 pub matched_k_slope : (f g : LinearForm) (h : ℕ) → IsMatchAt f g h → f.k_slope ≡ g.k_slope
 matched_k_slope f g h m =
     let e : f.k_slope +ℤ f.offset ≡ g.k_slope +ℤ (g.offset +ℤ g.k_slope *ℤ pos h) = sym (at_one_k f.n_slope f.k_slope f.offset)
-    ∙ m (pos 0) (pos 1) ∙ later_one_k g.n_slope g.k_slope g.offset (pos h) in
+    ∙ m (point (pos 0) (pos 1)) ∙ later_one_k g.n_slope g.k_slope g.offset (pos h) in
     omega (arith, ints, e, matched_offset f g h m)
 
 -- of two forms with the same slopes, the quotient of the difference of their offsets by the k slope is the shift

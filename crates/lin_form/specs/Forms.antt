@@ -1,6 +1,7 @@
 -- The linear form that a form of the code stands for, its multiples, and when it is another form at a later k.
-use Rattle.std.specs.Prelude.{◌≡◌, ℕ, ℤ, pos, ◌+ℤ◌, ◌*ℤ◌, unsigned_abs}
+use Rattle.std.specs.Prelude.{◌≡◌, ℕ, ℤ, pos, ◌*ℤ◌, unsigned_abs}
 use Rattle.std.specs.Int.{◌∣◌}
+use Rattle.hypergeometric.specs.Point.{Point, later_k}
 use Rattle.hypergeometric.specs.LinearForm.{LinearForm, form_value}
 use Rattle.lin_form.specs.declared.forms.LinForm.{LinForm}
 
@@ -15,9 +16,9 @@ form_of form = form_with form.n_slope form.k_slope form.offset
 abbrev pub multiple : ℤ → LinearForm → LinearForm
 multiple factor f = form_with (factor *ℤ f.n_slope) (factor *ℤ f.k_slope) (factor *ℤ f.offset)
 
--- f at k is g at k + h, for all whole n and k
+-- f at k is g at k + h, at every point
 abbrev pub IsMatchAt : LinearForm → LinearForm → ℕ → Type 0
-IsMatchAt f g h = (n k : ℤ) → form_value f n k ≡ form_value g n (k +ℤ pos h)
+IsMatchAt f g h = (p : Point) → form_value f p ≡ form_value g (later_k p (pos h))
 
 -- d divides the three numbers, and every number that does divides d
 pub record IsGreatestDivisor (f : LinearForm) (d : ℕ) : Type 0 where

@@ -27,6 +27,7 @@ impl FactorList {
     ghost use Rattle.ring_laws.specs.Answer.{OnFault};
     ghost use Rattle.ring_laws.specs.declared.faults.RingFault.TheVariants.{TooLarge, Memory};
     ghost use Rattle.poly_laws.specs.Values.{level};
+    ghost use Rattle.hypergeometric.specs.Point.{Point};
     ghost use Rattle.hypergeometric.specs.LinearForm.{Factor, forms_value, factor_list_value};
     ghost use Rattle.hypergeometric.specs.FormOrder.{AreFactors, IsSorted};
     ghost use Rattle.hypergeometric.specs.ProperTerm.{poly_value};
@@ -138,7 +139,7 @@ impl FactorList {
     /// magnitudes of those that aren't zero has a number of 2^127 or more, or more than 256 coefficients.
     pub fn to_poly(&self, alloc: Global) -> Result<Znk, RingFault>
         ensures polynomial { IfOk result (λ poly. ⟦<Znk as Ring>⟧.meaning poly ≡ list_polynomial (list_of self.now)) }
-        ensures value { IfOk result (λ poly. (n k : ℤ) → poly_value (⟦<Znk as Ring>⟧.meaning poly) n k ≡ factor_list_value (list_of self.now) n k) }
+        ensures value { IfOk result (λ poly. (p : Point) → poly_value (⟦<Znk as Ring>⟧.meaning poly) p ≡ factor_list_value (list_of self.now) p) }
         ensures too_large { IfErr result (OnFault (¬ ListInBounds (list_of self.now))) }
     {
         let mut product = Znk::whole(alloc, self.scale)?;

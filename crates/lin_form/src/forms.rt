@@ -20,6 +20,7 @@ pub struct LinForm {
 
 impl LinForm {
     ghost use Rattle.std.specs.Prelude.{◌≡◌, ◌≢◌, ◌⊎◌, ◌<ℤ◌, ◌+ℤ◌, ◌*ℤ◌, pos, ℤ, ℕ, MatchOption, IfSome, IsTrue, ◌↔◌};
+    ghost use Rattle.hypergeometric.specs.Point.{Point, point, later_n, later_k};
     ghost use Rattle.hypergeometric.specs.LinearForm.{LinearForm, form_value};
     ghost use Rattle.hypergeometric.specs.FormOrder.{IsForm, IsPrimitive, IsPositiveFirst};
     ghost use Rattle.lin_form.specs.Forms.{form_of, form_with, multiple, IsGreatestDivisor, IsMatchAt};
@@ -67,7 +68,7 @@ impl LinForm {
 
     /// The value at n and k.
     pub fn at(&self, n: i64, k: i64) -> i128
-        ensures value { result ≡ form_value (form_of self.now) n k }
+        ensures value { result ≡ form_value (form_of self.now) (point n k) }
     {
         product(self.n_slope, n) + product(self.k_slope, k) + i128::from(self.offset)
     }
@@ -75,7 +76,7 @@ impl LinForm {
     /// The form whose value at n is that of this form at `n + by`.
     pub fn shift_n(&self, by: i64) -> LinForm
         requires in_bounds { unsigned_abs ((form_of self.now).offset +ℤ (form_of self.now).n_slope *ℤ by) ≤ 2 ^ 40 }
-        ensures value { (n k : ℤ) → form_value (form_of result) n k ≡ form_value (form_of self.now) (n +ℤ by) k }
+        ensures value { (p : Point) → form_value (form_of result) p ≡ form_value (form_of self.now) (later_n p by) }
         ensures slopes { ((form_of result).n_slope ≡ (form_of self.now).n_slope) × ((form_of result).k_slope ≡ (form_of self.now).k_slope) }
         ensures offset { (form_of result).offset ≡ (form_of self.now).offset +ℤ (form_of self.now).n_slope *ℤ by }
     {
@@ -89,7 +90,7 @@ impl LinForm {
     /// The form whose value at k is that of this form at `k + by`.
     pub fn shift_k(&self, by: i64) -> LinForm
         requires in_bounds { unsigned_abs ((form_of self.now).offset +ℤ (form_of self.now).k_slope *ℤ by) ≤ 2 ^ 40 }
-        ensures value { (n k : ℤ) → form_value (form_of result) n k ≡ form_value (form_of self.now) n (k +ℤ by) }
+        ensures value { (p : Point) → form_value (form_of result) p ≡ form_value (form_of self.now) (later_k p by) }
         ensures slopes { ((form_of result).n_slope ≡ (form_of self.now).n_slope) × ((form_of result).k_slope ≡ (form_of self.now).k_slope) }
         ensures offset { (form_of result).offset ≡ (form_of self.now).offset +ℤ (form_of self.now).k_slope *ℤ by }
     {
