@@ -6,6 +6,7 @@ use Rattle.ring_laws.specs.Meaning.{Meaning}
 use Rattle.poly_laws.specs.Values.{value_at, level}
 use Rattle.poly_laws.proofs.Keeps.{value_at_keeps}
 use Rattle.poly_laws.proofs.ShiftLaws.{value_at_shift}
+use Rattle.hypergeometric.specs.Point.{point}
 use Rattle.hypergeometric.specs.Fraction.{of_whole}
 use Rattle.hypergeometric.specs.PlainTerm.{plain_term, plain_claim}
 use Rattle.hypergeometric.specs.ProperTerm.{proper_value}
@@ -52,5 +53,5 @@ pub claim_telescopes : (d : Contents) → d.scale ≢ pos 0 → HasCarrier d →
 claim_telescopes d not_zero carrier e =
     subst (λ s. Telescopes (proper_value (plain_term d.scale (in_k d.poly))) (in_k d.poly) (plain_claim d.multiplier s (in_k d.y))) carrier
     (polynomial_document_telescopes (proper_value (plain_term d.scale (in_k d.poly))) d.poly d.y d.scale d.multiplier
-    (λ n k. plain_value d.scale (in_k d.poly) n k ∙ ap (λ z. of_whole (d.scale *ℤ z)) (in_k_value d.poly n k))
+    (λ p. plain_value d.scale (in_k d.poly) p ∙ ap (λ z. of_whole (d.scale *ℤ z)) (in_k_value d.poly p))
     (identity_of d e) not_zero)

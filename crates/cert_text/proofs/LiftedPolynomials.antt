@@ -11,19 +11,20 @@ use Rattle.poly_laws.specs.Values.{horner, value_at, level}
 use Rattle.poly_laws.proofs.Keeps.{value_at_keeps}
 use Rattle.poly_laws.proofs.Belonging.{value_passes}
 use Rattle.poly_laws.proofs.Equal.{level_laws}
+use Rattle.hypergeometric.specs.Point.{Point, values, values_in_n}
 use Rattle.hypergeometric.specs.ProperTerm.{poly_value}
 use Rattle.hypergeometric.specs.TermFacts.{IsPolynomial, IsNumber}
 use Rattle.cert_text.specs.PolynomialDocument.{constant_in_n, in_k}
 
-horner_constants : (n k : ℤ) (cs : List Meaning) → horner (value_at (n ∷ [])) k (map constant_in_n cs) ≡ horner number_of k cs
-horner_constants n k [] = refl
-horner_constants n k (c ∷ cs) =
-    ap (λ z. z +ℤ k *ℤ horner (value_at (n ∷ [])) k (map constant_in_n cs)) ((value_at_keeps (n ∷ [])).whole (number_of c))
-    ∙ ap (λ z. number_of c +ℤ k *ℤ z) (horner_constants n k cs)
+horner_constants : (p : Point) (cs : List Meaning) → horner (value_at (values_in_n p)) p.k (map constant_in_n cs) ≡ horner number_of p.k cs
+horner_constants p [] = refl
+horner_constants p (c ∷ cs) =
+    ap (λ z. z +ℤ p.k *ℤ horner (value_at (values_in_n p)) p.k (map constant_in_n cs)) ((value_at_keeps (values_in_n p)).whole (number_of c))
+    ∙ ap (λ z. number_of c +ℤ p.k *ℤ z) (horner_constants p cs)
 
 -- its value doesn't depend on n
-pub in_k_value : (p : Meaning) (n k : ℤ) → poly_value (in_k p) n k ≡ value_at (k ∷ []) p
-in_k_value p n k = ap (horner (value_at (n ∷ [])) k) (parted-joined (map constant_in_n (items p))) ∙ horner_constants n k (items p)
+pub in_k_value : (poly : Meaning) (p : Point) → poly_value (in_k poly) p ≡ value_at (p.k ∷ []) poly
+in_k_value poly p = ap (horner (value_at (values_in_n p)) p.k) (parted-joined (map constant_in_n (items poly))) ∙ horner_constants p (items poly)
 
 constant_not_zero : (z : ℤ) → is_empty (items ((level 1).ops.whole z)) ≡ (level 0).ops.is_nought (number z)
 constant_not_zero (pos zero) = refl

@@ -2,6 +2,7 @@
 use Rattle.std.proofs.Common.{◌≡◌, ℕ, suc, ◌≤◌, length, sym, ◌∙◌, subst, arith}
 use Rattle.std.proofs.lemmas.Int.{ints}
 use Rattle.std.specs.Prelude.{ℤ, pos, ◌+ℤ◌}
+use Rattle.hypergeometric.specs.Point.{Point, later_n}
 use Rattle.hypergeometric.specs.Fraction.{Fraction, IsDefined, ◌≈◌}
 use Rattle.hypergeometric.specs.ProperTerm.{ProperTerm, IsNonzero, HasFractions}
 use Rattle.hypergeometric.specs.TermFacts.{IsLowest, IsProper}
@@ -25,42 +26,42 @@ nonzero {f} h = record { top = h.not_zero; bottom = λ e. omega (arith, ints, e,
 pub has_fractions : (f : ProperTerm) → IsProper f → HasFractions f
 has_fractions f p = record { scale = nonzero p.scale; n_base = nonzero p.n_base; k_base = nonzero p.k_base }
 
-module _ (f : ProperTerm) (value : ℤ → ℤ → Fraction) (pieces : Pieces) (order : ℕ) (c : Claim)
+module _ (f : ProperTerm) (value : Point → Fraction) (pieces : Pieces) (order : ℕ) (c : Claim)
     (parts : HasFractions f) (has : HasValue f value) (are : ArePiecesOf pieces f order) (goes : HasPieces c pieces)
     (count : length c.multipliers ≡ suc order) where
   -- F(n + j, k) is defined for each j up to the order
-  defined_up_to : (n k : ℤ) → AllDefined value c.multipliers n k → (j : ℕ) → j ≤ order → IsDefined (value (n +ℤ pos j) k)
-  defined_up_to n k h j l = each_defined value c.multipliers n k h j (omega (arith, l, count))
+  defined_up_to : (p : Point) → AllDefined value c.multipliers p → (j : ℕ) → j ≤ order → IsDefined (value (later_n p (pos j)))
+  defined_up_to p h j l = each_defined value c.multipliers p h j (omega (arith, l, count))
 
   -- the left side is a multiple of the one value
-  left_multiple : (n k : ℤ) (h : AllDefined value c.multipliers n k)
-      → left_side value c n k
-      ≈ times_common (sum_of_multiples (λ j. top_value (pieces.top j) n k) c.multipliers n 0)
-      (common f value pieces order c parts has are goes n k (defined_up_to n k h))
-  left_multiple n k h =
-      let place : n +ℤ pos 0 ≡ n = omega (arith, ints) in
-      let defined = defined_up_to n k h in
-      let one = common f value pieces order c parts has are goes n k defined in
-      subst (λ m. shifted_sum value c.multipliers n m k
-      ≈ times_common (sum_of_multiples (λ j. top_value (pieces.top j) n k) c.multipliers n 0) one) place
-      (multiples_add_up value (λ j. top_value (pieces.top j) n k) one n k
-      (common_defined f value pieces order c parts has are goes n k defined) c.multipliers 0
-      (λ i l u. term_multiple f value pieces order c parts has are goes n k defined i (omega (arith, u, count))))
+  left_multiple : (p : Point) (h : AllDefined value c.multipliers p)
+      → left_side value c p
+      ≈ times_common (sum_of_multiples (λ j. top_value (pieces.top j) p) c.multipliers p.n 0)
+      (common f value pieces order c parts has are goes p (defined_up_to p h))
+  left_multiple p h =
+      let place : p.n +ℤ pos 0 ≡ p.n = omega (arith, ints) in
+      let defined = defined_up_to p h in
+      let one = common f value pieces order c parts has are goes p defined in
+      subst (λ m. shifted_sum value c.multipliers p.n m p.k
+      ≈ times_common (sum_of_multiples (λ j. top_value (pieces.top j) p) c.multipliers p.n 0) one) place
+      (multiples_add_up value (λ j. top_value (pieces.top j) p) one p
+      (common_defined f value pieces order c parts has are goes p defined) c.multipliers 0
+      (λ i l u. term_multiple f value pieces order c parts has are goes p defined i (omega (arith, u, count))))
 
-  module _ (identity : (n k : ℤ) → IdentityAt n k pieces c (sum_of_multiples (λ j. top_value (pieces.top j) n k) c.multipliers n 0)) where
+  module _ (identity : (p : Point) → IdentityAt p pieces c (sum_of_multiples (λ j. top_value (pieces.top j) p) c.multipliers p.n 0)) where
     points_hold : TelescopesAtPoints value c
-    points_hold n k h here next =
-        let defined = defined_up_to n k h in
+    points_hold p h here next =
+        let defined = defined_up_to p h in
         record {
-          carrier_here = carrier_here f value pieces order c parts has are goes n k defined;
-          carrier_next = carrier_next f value pieces order c parts has are goes n k defined;
-          equal = difference_of_certificates f value pieces order c parts has are goes n k defined
-              (sum_of_multiples (λ j. top_value (pieces.top j) n k) c.multipliers n 0) (left_side value c n k) (identity n k) here next
-              (left_multiple n k h);
+          carrier_here = carrier_here f value pieces order c parts has are goes p defined;
+          carrier_next = carrier_next f value pieces order c parts has are goes p defined;
+          equal = difference_of_certificates f value pieces order c parts has are goes p defined
+              (sum_of_multiples (λ j. top_value (pieces.top j) p) c.multipliers p.n 0) (left_side value c p) (identity p) here next
+              (left_multiple p h);
         }
 
     ratio_at_points : HasRatio value f.poly c
-    ratio_at_points n k h carrier off = ratio_holds f value pieces order c parts has are goes n k (defined_up_to n k h) off
+    ratio_at_points p h carrier off = ratio_holds f value pieces order c parts has are goes p (defined_up_to p h) off
 
     pub claim_telescopes : Telescopes value f.poly c
     claim_telescopes = record {
@@ -69,9 +70,9 @@ module _ (f : ProperTerm) (value : ℤ → ℤ → Fraction) (pieces : Pieces) (
       ratio = ratio_at_points;
     }
 
-pub certified_telescopes : (f : ProperTerm) (value : ℤ → ℤ → Fraction) (pieces : Pieces) (order : ℕ) (c : Claim) → IsProper f → HasValue f value
+pub certified_telescopes : (f : ProperTerm) (value : Point → Fraction) (pieces : Pieces) (order : ℕ) (c : Claim) → IsProper f → HasValue f value
     → ArePiecesOf pieces f order → IsCertified c pieces order → Telescopes value f.poly c
 certified_telescopes f value pieces order c proper has are certified =
     claim_telescopes f value pieces order c (has_fractions f proper) has are certified.goes_with certified.count
-    (λ n k. subst (λ s. IdentityAt n k pieces c s) (tops_are n k pieces.top c.multipliers 0)
-    (identity_at n k pieces c (sum_of_tops pieces.top c.multipliers 0) certified.identity))
+    (λ p. subst (λ s. IdentityAt p pieces c s) (tops_are p pieces.top c.multipliers 0)
+    (identity_at p pieces c (sum_of_tops pieces.top c.multipliers 0) certified.identity))

@@ -4,6 +4,7 @@ use Rattle.std.proofs.lemmas.Int.{ints}
 use Rattle.std.specs.List.{AllByRecursion}
 use Rattle.std.specs.Prelude.{ℤ, pos, negsuc, ◌*ℤ◌, ◌≤ℤ◌}
 use Rattle.ring_solver.proofs.Read.{ring_z, reading_z}
+use Rattle.hypergeometric.specs.Point.{Point}
 use Rattle.hypergeometric.specs.Fraction.{IsDefined, ◌≈◌, of_whole, fraction_product, natural_power}
 use Rattle.hypergeometric.specs.LinearForm.{Factor, form_value, factorial, factorial_value, inverse_factorial_value, product_over}
 use Rattle.hypergeometric.specs.FormOrder.{IsFactor}
@@ -43,47 +44,47 @@ one_power : (e : ℕ) → natural_power (of_whole (pos 1)) e ≡ of_whole (pos 1
 one_power zero = refl
 one_power (suc e) = ap (fraction_product (of_whole (pos 1))) (one_power e)
 
-module _ (n k : ℤ) where
-  guards_one : (xs : List Factor) → NoneNegative xs n k → product_over guard_value xs n k ≈ of_whole (pos 1)
+module _ (p : Point) where
+  guards_one : (xs : List Factor) → NoneNegative xs p → product_over guard_value xs p ≈ of_whole (pos 1)
   guards_one [] h = equal_to_itself (of_whole (pos 1)) one_not_zero
   guards_one (x ∷ xs) (h, hs) =
       equal_products
-      (subst (λ z. natural_power (guard_value (form_value x.form n k)) x.power ≈ z) (one_power x.power)
-      (equal_powers x.power (guard_one (form_value x.form n k) h)))
+      (subst (λ z. natural_power (guard_value (form_value x.form p)) x.power ≈ z) (one_power x.power)
+      (equal_powers x.power (guard_one (form_value x.form p) h)))
       (guards_one xs hs)
 
-  guards_natural : (xs : List Factor) → AllSome xs → IsDefined (product_over guard_value xs n k) → NoneNegative xs n k
+  guards_natural : (xs : List Factor) → AllSome xs → IsDefined (product_over guard_value xs p) → NoneNegative xs p
   guards_natural [] some d = tt
   guards_natural (x ∷ xs) some d =
-      let one = natural_power (guard_value (form_value x.form n k)) x.power in (
-        guard_natural (form_value x.form n k)
-            (base_defined (guard_value (form_value x.form n k)) x.power some.0 (left_defined one (product_over guard_value xs n k) d)),
-        guards_natural xs some.1 (right_defined one (product_over guard_value xs n k) d),
+      let one = natural_power (guard_value (form_value x.form p)) x.power in (
+        guard_natural (form_value x.form p)
+            (base_defined (guard_value (form_value x.form p)) x.power some.0 (left_defined one (product_over guard_value xs p) d)),
+        guards_natural xs some.1 (right_defined one (product_over guard_value xs p) d),
       )
 
 factors_some : (xs : List Factor) → AllByRecursion IsFactor xs → AllSome xs
 factors_some xs h = all_more IsFactor (λ x. 1 ≤ x.power) (λ x p. p.some) xs h
 
 module _ (f : ProperTerm) (proper : IsProper f) where
-  value_is_own : (n k : ℤ) → IsDefinedAt f n k → proper_value f n k ≈ own_value f n k
-  value_is_own n k d =
-      let own = proper_value f n k in
-      subst (λ z. z ≈ own_value f n k) (product_one own)
-      (equal_products (equal_to_itself own (proper_value_defined f n k (has_fractions f proper) d)) (equal_turned (guards_one n k f.guard d.guard)))
+  value_is_own : (p : Point) → IsDefinedAt f p → proper_value f p ≈ own_value f p
+  value_is_own p d =
+      let own = proper_value f p in
+      subst (λ z. z ≈ own_value f p) (product_one own)
+      (equal_products (equal_to_itself own (proper_value_defined f p (has_fractions f proper) d)) (equal_turned (guards_one p f.guard d.guard)))
 
-  own_defined : (n k : ℤ) → IsDefined (own_value f n k) → IsDefinedAt f n k
-  own_defined n k d =
-      let lists = value_defined n k f (factors_some f.up proper.up.each) (factors_some f.over proper.over.each)
-      (left_defined (proper_value f n k) (product_over guard_value f.guard n k) d) in
+  own_defined : (p : Point) → IsDefined (own_value f p) → IsDefinedAt f p
+  own_defined p d =
+      let lists = value_defined p f (factors_some f.up proper.up.each) (factors_some f.over proper.over.each)
+      (left_defined (proper_value f p) (product_over guard_value f.guard p) d) in
       record {
         up = lists.0;
-        guard = guards_natural n k f.guard (factors_some f.guard proper.guard.each)
-            (right_defined (proper_value f n k) (product_over guard_value f.guard n k) d);
+        guard = guards_natural p f.guard (factors_some f.guard proper.guard.each)
+            (right_defined (proper_value f p) (product_over guard_value f.guard p) d);
         over = lists.1;
       }
 
   pub has_own_value : HasValue f (own_value f)
   has_own_value = record {
-    defined = λ n k. ((λ d. (value_is_own n k d).right_defined), own_defined n k);
+    defined = λ p. ((λ d. (value_is_own p d).right_defined), own_defined p);
     equal = value_is_own;
   }

@@ -6,6 +6,7 @@ use Rattle.std.specs.Int.{◌∣◌}
 use Rattle.std.specs.Prelude.{ℤ, pos, ◌+ℤ◌, ◌-ℤ◌, ◌*ℤ◌, unsigned_abs, All}
 use Rattle.ring_laws.specs.Meaning.{Meaning}
 use Rattle.poly_laws.specs.Values.{value_at}
+use Rattle.hypergeometric.specs.Point.{Point}
 use Rattle.hypergeometric.specs.Fraction.{Fraction, ◌≈◌, of_whole}
 use Rattle.hypergeometric.specs.ProperTerm.{ProperTerm}
 use Rattle.hypergeometric.specs.PlainTerm.{plain_term}
@@ -65,12 +66,12 @@ antidifference_of cs ys a poly y p q few some small light least multiplier =
     weaker = All-weaker IsSmall (λ c. unsigned_abs c ≤ 1500000000) (λ c h. omega (arith, h)) cs small
 
 -- a whole number times a polynomial in k has a value everywhere, and so has what has its value
-same_values : (f : ProperTerm) (value : ℤ → ℤ → Fraction) (scale : ℤ) (poly : Meaning) → HasValue f value → f ≡ plain_term scale (in_k poly)
-    → (n k : ℤ) → of_whole (scale *ℤ value_at (k ∷ []) poly) ≈ value n k
-same_values f value scale poly has is n k =
+same_values : (f : ProperTerm) (value : Point → Fraction) (scale : ℤ) (poly : Meaning) → HasValue f value → f ≡ plain_term scale (in_k poly)
+    → (p : Point) → of_whole (scale *ℤ value_at (p.k ∷ []) poly) ≈ value p
+same_values f value scale poly has is p =
     let plain : HasValue (plain_term scale (in_k poly)) value = subst (λ t. HasValue t value) is has in
-    subst (λ v. v ≈ value n k) (plain_value scale (in_k poly) n k ∙ ap (λ z. of_whole (scale *ℤ z)) (in_k_value poly n k))
-    (plain.equal n k (record { up = tt; guard = tt; over = tt }))
+    subst (λ v. v ≈ value p) (plain_value scale (in_k poly) p ∙ ap (λ z. of_whole (scale *ℤ z)) (in_k_value poly p))
+    (plain.equal p (record { up = tt; guard = tt; over = tt }))
 
 -- what was read, classified and found answers the text
 pub answered : (input text : List ℕ) (root : Tree) (f : ProperTerm) (cs : List ℤ) (scale a : ℤ) (y : Meaning)
@@ -102,10 +103,10 @@ answered input text root f cs scale a y read class value numbers found small lig
       carrier_not_zero = numbers.scale_not_zero;
       y = found.bounded;
     };
-    telescopes = telescopes_too (λ n k. of_whole (scale *ℤ value_at (k ∷ []) (polynomial_of cs))) (term_value root)
+    telescopes = telescopes_too (λ p. of_whole (scale *ℤ value_at (p.k ∷ []) (polynomial_of cs))) (term_value root)
         (same_values f (term_value root) scale (polynomial_of cs) value numbers.term) _ _
-        (polynomial_document_telescopes (λ n k. of_whole (scale *ℤ value_at (k ∷ []) (polynomial_of cs))) (polynomial_of cs) y scale a
-        (λ n k. refl) found.least.difference numbers.scale_not_zero);
+        (polynomial_document_telescopes (λ p. of_whole (scale *ℤ value_at (p.k ∷ []) (polynomial_of cs))) (polynomial_of cs) y scale a
+        (λ p. refl) found.least.difference numbers.scale_not_zero);
   },
   printed,
 )

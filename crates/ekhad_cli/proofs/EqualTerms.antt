@@ -2,6 +2,7 @@
 use Rattle.std.proofs.Common.{ℕ, zero, suc, List, [], ◌∷◌}
 use Rattle.std.specs.Prelude.{ℤ, pos, ◌+ℤ◌, ◌*ℤ◌}
 use Rattle.ring_laws.specs.Meaning.{Meaning}
+use Rattle.hypergeometric.specs.Point.{Point, values}
 use Rattle.hypergeometric.specs.Fraction.{Fraction, ◌≈◌, of_whole, sum_over_range}
 use Rattle.hypergeometric.specs.LinearForm.{factor_list_value}
 use Rattle.hypergeometric.specs.ProperTerm.{poly_value, value_in_n}
@@ -14,34 +15,34 @@ equal_ranges f g same lo zero = equal_to_itself (of_whole (pos 0)) one_not_zero
 equal_ranges f g same lo (suc count) = equal_sums (equal_ranges f g same lo count) (same (lo +ℤ pos count))
 
 -- f and g are defined everywhere, and equal
-module _ (f g : ℤ → ℤ → Fraction) (same : (n k : ℤ) → f n k ≈ g n k) where
-  all_defined : (multipliers : List Meaning) (m k : ℤ) → AllDefined f multipliers m k
-  all_defined [] m k = tt
-  all_defined (a ∷ more) m k = ((same m k).left_defined, all_defined more (m +ℤ pos 1) k)
+module _ (f g : Point → Fraction) (same : (p : Point) → f p ≈ g p) where
+  all_defined : (multipliers : List Meaning) (m p.k : ℤ) → AllDefined f multipliers m p.k
+  all_defined [] m p.k = tt
+  all_defined (a ∷ more) m p.k = ((same m p.k).left_defined, all_defined more (m +ℤ pos 1) p.k)
 
-  equal_shifted : (multipliers : List Meaning) (n m k : ℤ) → shifted_sum g multipliers n m k ≈ shifted_sum f multipliers n m k
-  equal_shifted [] n m k = equal_to_itself (of_whole (pos 0)) one_not_zero
-  equal_shifted (a ∷ more) n m k =
-      equal_sums (equal_products (equal_to_itself (of_whole (value_in_n a n)) one_not_zero) (equal_turned (same m k)))
-      (equal_shifted more n (m +ℤ pos 1) k)
+  equal_shifted : (multipliers : List Meaning) (p.n m p.k : ℤ) → shifted_sum g multipliers p.n m p.k ≈ shifted_sum f multipliers p.n m p.k
+  equal_shifted [] p.n m p.k = equal_to_itself (of_whole (pos 0)) one_not_zero
+  equal_shifted (a ∷ more) p.n m p.k =
+      equal_sums (equal_products (equal_to_itself (of_whole (value_in_n a p.n)) one_not_zero) (equal_turned (same m p.k)))
+      (equal_shifted more p.n (m +ℤ pos 1) p.k)
 
   points : (c : Claim) → TelescopesAtPoints f c → TelescopesAtPoints g c
-  points c t n k defined here next =
-      let at = t n k (all_defined c.multipliers n k) here next in record {
+  points c t p defined here next =
+      let at = t p (all_defined c.multipliers p) here next in record {
         carrier_here = at.carrier_here;
         carrier_next = at.carrier_next;
-        equal = equal_chain (equal_shifted c.multipliers n n k) at.equal;
+        equal = equal_chain (equal_shifted c.multipliers p.n p) at.equal;
       }
 
   ranges : (c : Claim) → TelescopesOverRanges f c → TelescopesOverRanges g c
-  ranges c t n lo count defined off_poles =
-      equal_chain (equal_ranges (left_side g c n) (left_side f c n) (λ k. equal_shifted c.multipliers n n k) lo count)
-      (t n lo count (λ i h. all_defined c.multipliers n (lo +ℤ pos i)) off_poles)
+  ranges c t p.n lo count defined off_poles =
+      equal_chain (equal_ranges (left_side g c p.n) (left_side f c p.n) (λ p.k. equal_shifted c.multipliers p.n p) lo count)
+      (t p.n lo count (λ i h. all_defined c.multipliers p.n (lo +ℤ pos i)) off_poles)
 
   ratio : (poly : Meaning) (c : Claim) → HasRatio f poly c → HasRatio g poly c
-  ratio poly c t n k defined carrier off_poles =
-      equal_chain (t n k (all_defined c.multipliers n k) carrier off_poles)
-      (equal_products (same n k) (equal_to_itself (of_whole (factor_list_value c.ratio_top n k *ℤ poly_value c.y n k)) one_not_zero))
+  ratio poly c t p defined carrier off_poles =
+      equal_chain (t p (all_defined c.multipliers p) carrier off_poles)
+      (equal_products (same p) (equal_to_itself (of_whole (factor_list_value c.ratio_top p *ℤ poly_value c.y p)) one_not_zero))
 
   pub telescopes_too : (poly : Meaning) (c : Claim) → Telescopes f poly c → Telescopes g poly c
   telescopes_too poly c t = record { points = points c t.points; ranges = ranges c t.ranges; ratio = ratio poly c t.ratio }

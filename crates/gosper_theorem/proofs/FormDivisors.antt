@@ -8,6 +8,7 @@ use Rattle.poly_laws.proofs.Equal.{level_laws}
 use Rattle.poly_laws.proofs.Keeps.{value_at_keeps}
 use Rattle.poly_laws.proofs.ListLaws.{nought_product, product_nought}
 use Rattle.poly_laws.proofs.PolyLaws.{coefficient-whole}
+use Rattle.hypergeometric.specs.Point.{values}
 use Rattle.hypergeometric.specs.LinearForm.{LinearForm, Factor, FactorList}
 use Rattle.lin_form.specs.FactorLists.{same_form, factor_with, power_of}
 use Rattle.lin_form.specs.Products.{list_polynomial}
@@ -87,8 +88,8 @@ from_forms p prime (x ∷ xs) all h =
 parts_of : (l : FactorList) → list_in l ≡ in_k.product (in_k.whole l.scale) (forms_in_k l.factors)
 parts_of l =
     same_polynomials (list_in l) (in_k.product (in_k.whole l.scale) (forms_in_k l.factors))
-    (λ n k. value_of l n k ∙ sym (product_at (in_k.whole l.scale) (forms_in_k l.factors) n k
-    ∙ (λ i. (value_at_keeps (k ∷ n ∷ [])).whole l.scale i *ℤ forms_alone l.factors n k i)))
+    (λ p. value_of l p ∙ sym (product_at (in_k.whole l.scale) (forms_in_k l.factors) p
+    ∙ (λ i. (value_at_keeps (values p)).whole l.scale i *ℤ forms_alone l.factors p i)))
 
 scale_some : (l : FactorList) → ¬ (list_polynomial l ≡ (level 2).ops.nought) → l.scale ≢ pos 0
 scale_some l some e =

@@ -6,6 +6,7 @@ use Rattle.std.proofs.Math.IntN.{pow}
 use Rattle.std.specs.List.{AllByRecursion}
 use Rattle.poly_laws.specs.Values.{level}
 use Rattle.poly_laws.proofs.Equal.{level_laws}
+use Rattle.hypergeometric.specs.Point.{later_k}
 use Rattle.hypergeometric.specs.LinearForm.{LinearForm, FactorList}
 use Rattle.hypergeometric.specs.FormOrder.{IsPrimitive}
 use Rattle.lin_form.specs.FactorLists.{factor_with, power_of}
@@ -38,8 +39,8 @@ later_form : (h : ℤ) (f : LinearForm) → shift_by h (form_in_k f) ≡ form_in
 later_form h f =
     ap (shift_by h) (sym (lone_form f))
     ∙ same_polynomials (shift_by h (forms_in_k (factor_with f 1 ∷ []))) (forms_in_k (factor_with (at_later_k f h) 1 ∷ []))
-    (λ n k. shift_at h (forms_in_k (factor_with f 1 ∷ [])) n k ∙ forms_alone (factor_with f 1 ∷ []) n (k +ℤ h) ∙ lone_value f 1 n (k +ℤ h)
-    ∙ sym (forms_alone (factor_with (at_later_k f h) 1 ∷ []) n k ∙ lone_value (at_later_k f h) 1 n k ∙ ap (λ t. pow t 1) (later_k_value f h n k)))
+    (λ p. shift_at h (forms_in_k (factor_with f 1 ∷ [])) p ∙ forms_alone (factor_with f 1 ∷ []) (later_k p h) ∙ lone_value f 1 (later_k p h)
+    ∙ sym (forms_alone (factor_with (at_later_k f h) 1 ∷ []) p ∙ lone_value (at_later_k f h) 1 p ∙ ap (λ t. pow t 1) (later_k_value f h p)))
     ∙ lone_form (at_later_k f h)
 
 module _ (q r : FactorList) (no_match : HasNoMatch q.factors r.factors) (proper_q : AreProper q) (proper_r : AreProper r)

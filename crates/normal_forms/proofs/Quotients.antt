@@ -3,6 +3,7 @@ use Rattle.std.proofs.Common.{◌≡◌, [], ◌∷◌, refl, ap, sym, ◌∙◌
 use Rattle.std.proofs.lemmas.Int.{ints}
 use Rattle.std.specs.Prelude.{ℤ, pos, negsuc, ◌+ℤ◌, ◌-ℤ◌, ◌*ℤ◌}
 use Rattle.ring_solver.proofs.Read.{ring_z, reading_z}
+use Rattle.hypergeometric.specs.Point.{Point, later_k}
 use Rattle.hypergeometric.specs.LinearForm.{FactorList, factor_list_value}
 use Rattle.hypergeometric.specs.FormOrder.{IsSorted}
 use Rattle.normal_forms.specs.NormalForm.{Normal, IsNormalFormOf}
@@ -11,39 +12,39 @@ use Rattle.normal_forms.proofs.NormalValues.{q_value, r_value, g_value, poles_va
 use Rattle.normal_forms.proofs.NormalValues.{chains_below as product_below, chains_next as product_next}
 
 module _ (normal : Normal) (q0 r0 : FactorList) (is : IsNormalFormOf normal q0 r0) where
-  pub q_kept : IsSorted q0.factors → (n k : ℤ) → factor_list_value q0 n k ≡ factor_list_value normal.q n k *ℤ value_above normal n k
-  q_kept sorted n k = q_value n k normal q0 r0 is sorted
+  pub q_kept : IsSorted q0.factors → (p : Point) → factor_list_value q0 p ≡ factor_list_value normal.q p *ℤ value_above normal p
+  q_kept sorted p = q_value p normal q0 r0 is sorted
 
-  pub r_kept : IsSorted r0.factors → (n k : ℤ) → factor_list_value r0 n k ≡ factor_list_value normal.r n k *ℤ value_below normal n k
-  r_kept sorted n k = r_value n k normal q0 r0 is sorted
+  pub r_kept : IsSorted r0.factors → (p : Point) → factor_list_value r0 p ≡ factor_list_value normal.r p *ℤ value_below normal p
+  r_kept sorted p = r_value p normal q0 r0 is sorted
 
-  pub chains_here : (n k : ℤ)
-      → factor_list_value normal.poles n k ≡ factor_list_value normal.g n k *ℤ value_below normal n (k -ℤ pos 1)
-  chains_here n k =
-      poles_value n k normal q0 r0 is ∙ product_below n k normal.matches
-      ∙ (λ i. sym (g_value n k normal q0 r0 is) i *ℤ value_below normal n (one_less k i))
+  pub chains_here : (p : Point)
+      → factor_list_value normal.poles p ≡ factor_list_value normal.g p *ℤ value_below normal (later_k p (negsuc 0))
+  chains_here p =
+      poles_value p normal q0 r0 is ∙ product_below p normal.matches
+      ∙ (λ i. sym (g_value p normal q0 r0 is) i *ℤ value_below normal p.n (one_less p.k i))
     where
       one_less : (k : ℤ) → k +ℤ negsuc 0 ≡ k -ℤ pos 1
       one_less k = omega (arith, ints)
 
-  pub chains_next : (n k : ℤ)
-      → factor_list_value normal.poles n (k +ℤ pos 1) ≡ value_above normal n k *ℤ factor_list_value normal.g n k
-  chains_next n k =
-      poles_value n (k +ℤ pos 1) normal q0 r0 is ∙ product_next n k normal.matches
-      ∙ ap (λ t. value_above normal n k *ℤ t) (sym (g_value n k normal q0 r0 is))
+  pub chains_next : (p : Point)
+      → factor_list_value normal.poles (later_k p (pos 1)) ≡ value_above normal p *ℤ factor_list_value normal.g p
+  chains_next p =
+      poles_value (later_k p (pos 1)) normal q0 r0 is ∙ product_next p normal.matches
+      ∙ ap (λ t. value_above normal p *ℤ t) (sym (g_value p normal q0 r0 is))
 
   -- A(k) g(k) = g(k+1) B(k), since both are the chains at k + 1
-  pub quotient_kept : IsSorted q0.factors → IsSorted r0.factors → (n k : ℤ)
-      → factor_list_value q0 n k *ℤ (factor_list_value normal.r n k *ℤ factor_list_value normal.g n k)
-      ≡ factor_list_value r0 n k *ℤ (factor_list_value normal.q n k *ℤ factor_list_value normal.g n (k +ℤ pos 1))
-  quotient_kept q_sorted r_sorted n k =
-      let q = factor_list_value normal.q n k in
-      let r = factor_list_value normal.r n k in
-      let g = factor_list_value normal.g n k in
-      let next = factor_list_value normal.g n (k +ℤ pos 1) in
-      let shared = sym (chains_next n k) ∙ chains_here n (k +ℤ pos 1) ∙ ap (λ t. next *ℤ value_below normal n t) (and_back k) in
-      ap (λ t. t *ℤ (r *ℤ g)) (q_kept q_sorted n k) ∙ grouped q (value_above normal n k) r g ∙ ap (λ t. (q *ℤ r) *ℤ t) shared
-      ∙ spread q r next (value_below normal n k) ∙ ap (λ t. t *ℤ (q *ℤ next)) (sym (r_kept r_sorted n k))
+  pub quotient_kept : IsSorted q0.factors → IsSorted r0.factors → (p : Point)
+      → factor_list_value q0 p *ℤ (factor_list_value normal.r p *ℤ factor_list_value normal.g p)
+      ≡ factor_list_value r0 p *ℤ (factor_list_value normal.q p *ℤ factor_list_value normal.g (later_k p (pos 1)))
+  quotient_kept q_sorted r_sorted p =
+      let q = factor_list_value normal.q p in
+      let r = factor_list_value normal.r p in
+      let g = factor_list_value normal.g p in
+      let next = factor_list_value normal.g (later_k p (pos 1)) in
+      let shared = sym (chains_next p) ∙ chains_here (later_k p (pos 1)) ∙ ap (λ t. next *ℤ value_below normal p.n t) (and_back p.k) in
+      ap (λ t. t *ℤ (r *ℤ g)) (q_kept q_sorted p) ∙ grouped q (value_above normal p) r g ∙ ap (λ t. (q *ℤ r) *ℤ t) shared
+      ∙ spread q r next (value_below normal p) ∙ ap (λ t. t *ℤ (q *ℤ next)) (sym (r_kept r_sorted p))
     where
       and_back : (k : ℤ) → (k +ℤ pos 1) -ℤ pos 1 ≡ k
       and_back k = omega (arith, ints)

@@ -3,6 +3,7 @@ use Rattle.std.proofs.Common.{◌≡◌, ◌≢◌, ◌+◌, Bool, true, false, 
 use Rattle.std.proofs.Math.IntN.{pow}
 use Rattle.std.specs.Prelude.{ℤ, pos, ◌*ℤ◌, cond}
 use Rattle.ring_solver.proofs.Read.{ring_z, reading_z}
+use Rattle.hypergeometric.specs.Point.{Point}
 use Rattle.hypergeometric.specs.LinearForm.{LinearForm, Factor, form_value, forms_value}
 use Rattle.hypergeometric.specs.FormOrder.{IsSorted}
 use Rattle.lin_form.specs.FactorLists.{same_form, power_of}
@@ -58,11 +59,11 @@ power_once f (y ∷ ys) (first, sorted) = by (same_form f y.form) refl (power_on
         omega (arith, h, none)
     by false e h = omega (arith, h)
 
-module _ (n k : ℤ) where
+module _ (p : Point) where
   -- one form taken out, with all its powers
   taken_out : (f : LinearForm) (xs : List Factor)
-      → forms_value xs n k ≡ pow (form_value f n k) (power_within f xs) *ℤ forms_value (without_form f xs) n k
-  taken_out f [] = ap (λ t. t *ℤ pos 1) (sym (power_zero (form_value f n k)))
+      → forms_value xs p ≡ pow (form_value f p) (power_within f xs) *ℤ forms_value (without_form f xs) p
+  taken_out f [] = ap (λ t. t *ℤ pos 1) (sym (power_zero (form_value f p)))
   taken_out f (x ∷ xs) = by (same_form f x.form) refl (taken_out f xs)
     where
       grouped : (a b c : ℤ) → a *ℤ (b *ℤ c) ≡ (a *ℤ b) *ℤ c
@@ -72,37 +73,37 @@ module _ (n k : ℤ) where
       moved a b c = ring_z (a ∷ b ∷ c ∷ []) (search reading_z depth 40 fits 20000) refl
 
       by : (b : Bool) → same_form f x.form ≡ b
-          → forms_value xs n k ≡ pow (form_value f n k) (power_within f xs) *ℤ forms_value (without_form f xs) n k
-          → pow (form_value x.form n k) x.power *ℤ forms_value xs n k
-          ≡ pow (form_value f n k) (cond b x.power 0 + power_within f xs) *ℤ forms_value (cond b (without_form f xs) (x ∷ without_form f xs)) n k
+          → forms_value xs p ≡ pow (form_value f p) (power_within f xs) *ℤ forms_value (without_form f xs) p
+          → pow (form_value x.form p) x.power *ℤ forms_value xs p
+          ≡ pow (form_value f p) (cond b x.power 0 + power_within f xs) *ℤ forms_value (cond b (without_form f xs) (x ∷ without_form f xs)) p
       by true e h =
-          ap (λ g. pow (form_value g n k) x.power *ℤ forms_value xs n k) (sym (same_form_found f x.form e))
-          ∙ ap (λ t. pow (form_value f n k) x.power *ℤ t) h
-          ∙ grouped (pow (form_value f n k) x.power) (pow (form_value f n k) (power_within f xs)) (forms_value (without_form f xs) n k)
-          ∙ ap (λ t. t *ℤ forms_value (without_form f xs) n k) (sym (pow_of_sum (form_value f n k) x.power (power_within f xs)))
+          ap (λ g. pow (form_value g p) x.power *ℤ forms_value xs p) (sym (same_form_found f x.form e))
+          ∙ ap (λ t. pow (form_value f p) x.power *ℤ t) h
+          ∙ grouped (pow (form_value f p) x.power) (pow (form_value f p) (power_within f xs)) (forms_value (without_form f xs) p)
+          ∙ ap (λ t. t *ℤ forms_value (without_form f xs) p) (sym (pow_of_sum (form_value f p) x.power (power_within f xs)))
       by false e h =
           let same : power_within f xs ≡ 0 + power_within f xs = omega arith in
-          ap (λ t. pow (form_value x.form n k) x.power *ℤ t) h
-          ∙ moved (pow (form_value x.form n k) x.power) (pow (form_value f n k) (power_within f xs)) (forms_value (without_form f xs) n k)
-          ∙ ap (λ p. pow (form_value f n k) p *ℤ (pow (form_value x.form n k) x.power *ℤ forms_value (without_form f xs) n k)) same
+          ap (λ t. pow (form_value x.form p) x.power *ℤ t) h
+          ∙ moved (pow (form_value x.form p) x.power) (pow (form_value f p) (power_within f xs)) (forms_value (without_form f xs) p)
+          ∙ ap (λ given. pow (form_value f p) given *ℤ (pow (form_value x.form p) x.power *ℤ forms_value (without_form f xs) p)) same
 
   -- where no form has a power
-  nothing : (xs : List Factor) → ((f : LinearForm) → power_within f xs ≡ 0) → forms_value xs n k ≡ pos 1
+  nothing : (xs : List Factor) → ((f : LinearForm) → power_within f xs ≡ 0) → forms_value xs p ≡ pos 1
   nothing [] h = refl
   nothing (x ∷ xs) h =
       let own = same_form_itself x.form x.form refl in
       let both = ap (λ b. cond b x.power 0 + power_within x.form xs) (sym own) ∙ h x.form in
       let none : x.power ≡ 0 = omega (arith, both) in
       let rest = nothing xs (λ f. omega (arith, h f)) in
-      ap (λ p. pow (form_value x.form n k) p *ℤ forms_value xs n k) none
-      ∙ ap (λ t. t *ℤ forms_value xs n k) (power_zero (form_value x.form n k)) ∙ ap (λ t. pos 1 *ℤ t) rest
+      ap (λ given. pow (form_value x.form p) given *ℤ forms_value xs p) none
+      ∙ ap (λ t. t *ℤ forms_value xs p) (power_zero (form_value x.form p)) ∙ ap (λ t. pos 1 *ℤ t) rest
 
   pub same_value : (ys zs : List Factor) → IsSorted ys → ((f : LinearForm) → power_of f ys ≡ power_within f zs)
-      → forms_value ys n k ≡ forms_value zs n k
+      → forms_value ys p ≡ forms_value zs p
   same_value [] zs sorted h = sym (nothing zs (λ f. sym (h f)))
   same_value (y ∷ ys) zs (first, sorted) h =
-      ap (λ t. pow (form_value y.form n k) y.power *ℤ t) (same_value ys (without_form y.form zs) sorted left)
-      ∙ ap (λ p. pow (form_value y.form n k) p *ℤ forms_value (without_form y.form zs) n k) own
+      ap (λ t. pow (form_value y.form p) y.power *ℤ t) (same_value ys (without_form y.form zs) sorted left)
+      ∙ ap (λ given. pow (form_value y.form p) given *ℤ forms_value (without_form y.form zs) p) own
       ∙ sym (taken_out y.form zs)
     where
       own : y.power ≡ power_within y.form zs

@@ -6,6 +6,7 @@ use Rattle.ring_solver.proofs.Read.{ring_z, reading_z}
 use Rattle.ring_laws.specs.Meaning.{Meaning}
 use Rattle.poly_laws.specs.Values.{level}
 use Rattle.poly_laws.proofs.Keeps.{value_at_keeps}
+use Rattle.hypergeometric.specs.Point.{Point, later_n, later_k}
 use Rattle.hypergeometric.specs.Fraction.{Fraction, ◌≈◌, of_whole, fraction_sum, fraction_difference, fraction_product, sum_over_range}
 use Rattle.hypergeometric.specs.LinearForm.{LinearForm}
 use Rattle.hypergeometric.specs.ProperTerm.{ProperTerm, value_in_n}
@@ -51,11 +52,11 @@ times_difference x f g = fraction_same (tops x f.top f.bottom g.top g.bottom) (b
     bottoms b d = ring_z (b ∷ d ∷ []) (search reading_z depth 40 fits 20000) refl
 
 -- the two left sides are the same
-same_side : (value : ℤ → ℤ → Fraction) (a : Meaning) (c : Claim) (n k : ℤ) → left_side value (pair_recurrence a c) n k ≡ pair_side value a n k
-same_side value a c n k =
-    ap (λ x. fraction_sum (fraction_product (of_whole x) (value n k))
-    (fraction_sum (fraction_product (of_whole (value_in_n a n)) (value (n +ℤ pos 1) k)) (of_whole (pos 0)))) (negated a n)
-    ∙ sym (times_difference (value_in_n a n) (value n k) (value (n +ℤ pos 1) k))
+same_side : (value : Point → Fraction) (a : Meaning) (c : Claim) (p : Point) → left_side value (pair_recurrence a c) p ≡ pair_side value a p
+same_side value a c p =
+    ap (λ x. fraction_sum (fraction_product (of_whole x) (value p))
+    (fraction_sum (fraction_product (of_whole (value_in_n a p.n)) (value (later_n p (pos 1)))) (of_whole (pos 0)))) (negated a p.n)
+    ∙ sym (times_difference (value_in_n a p.n) (value p) (value (later_n p (pos 1))))
 
 -- a (p_1 - p_0) is -a p_0 + (a p_1 + 0)
 numbers_are : (top : ℕ → ℤ) (a : Meaning) (n : ℤ)
@@ -66,7 +67,7 @@ numbers_are top a n =
     spread : (x t u : ℤ) → x *ℤ (u +ℤ neg_ℤ t) ≡ neg_ℤ x *ℤ t +ℤ (x *ℤ u +ℤ pos 0)
     spread x t u = ring_z (x ∷ t ∷ u ∷ []) (search reading_z depth 40 fits 20000) refl
 
-module _ (f : ProperTerm) (value : ℤ → ℤ → Fraction) (pieces : Pieces) (a : Meaning) (c : Claim)
+module _ (f : ProperTerm) (value : Point → Fraction) (pieces : Pieces) (a : Meaning) (c : Claim)
     (proper : IsProper f) (has : HasValue f value) (are : ArePiecesOf pieces f 1) (certified : IsCertifiedPair c a pieces) where
   goes : HasPieces (pair_recurrence a c) pieces
   goes = record {
@@ -75,47 +76,47 @@ module _ (f : ProperTerm) (value : ℤ → ℤ → Fraction) (pieces : Pieces) (
     ratio_bottom = certified.goes_with.ratio_bottom;
   }
 
-  identity : (n k : ℤ) → IdentityAt n k pieces (pair_recurrence a c)
-      (sum_of_multiples (λ j. top_value (pieces.top j) n k) ((level 1).ops.neg a ∷ a ∷ []) n 0)
-  identity n k =
+  identity : (p : Point) → IdentityAt p pieces (pair_recurrence a c)
+      (sum_of_multiples (λ j. top_value (pieces.top j) p) ((level 1).ops.neg a ∷ a ∷ []) p.n 0)
+  identity p =
       let p0 = top_polynomial (pieces.top 0) in
       let p1 = top_polynomial (pieces.top 1) in
-      subst (λ s. IdentityAt n k pieces (pair_recurrence a c) s)
-      (product_of n k (constant (level 1).ops a) (poly_difference p1 p0) _ _ (constant_is n k a)
-      (difference_of n k p1 p0 _ _ (top_is n k (pieces.top 1)) (top_is n k (pieces.top 0)))
-      ∙ numbers_are (λ j. top_value (pieces.top j) n k) a n)
-      (identity_at n k pieces c (pair_of_tops pieces.top a) certified.identity)
+      subst (λ s. IdentityAt p pieces (pair_recurrence a c) s)
+      (product_of p (constant (level 1).ops a) (poly_difference p1 p0) _ _ (constant_is p a)
+      (difference_of p p1 p0 _ _ (top_is p (pieces.top 1)) (top_is p (pieces.top 0)))
+      ∙ numbers_are (λ j. top_value (pieces.top j) p) a p.n)
+      (identity_at p pieces c (pair_of_tops pieces.top a) certified.identity)
 
   recurrence_telescopes : Telescopes value f.poly (pair_recurrence a c)
   recurrence_telescopes = claim_telescopes f value pieces 1 (pair_recurrence a c) (has_fractions f proper) has are goes refl identity
 
   pub pair_telescopes : IsPair value f.poly a c
   pair_telescopes = record {
-    points = λ n k both here next.
-        let at = recurrence_telescopes.points n k (both.0, (both.1, tt)) here next in
+    points = λ p both here next.
+        let at = recurrence_telescopes.points p (both.0, (both.1, tt)) here next in
         record {
           carrier_here = at.carrier_here;
           carrier_next = at.carrier_next;
-          equal = subst (λ z. z ≈ fraction_difference (certificate c n (k +ℤ pos 1)) (certificate c n k)) (same_side value a c n k) at.equal;
+          equal = subst (λ z. z ≈ fraction_difference (certificate c (later_k p (pos 1))) (certificate c p)) (same_side value a c p) at.equal;
         };
-    ranges = λ n lo count both poles.
-        subst (λ (g : ℤ → Fraction). sum_over_range g lo count ≈ between_ends (certificate c n) lo count) (λ i k. same_side value a c n k i)
-        (recurrence_telescopes.ranges n lo count (λ i l. ((both i l).0, ((both i l).1, tt))) poles);
-    ratio = λ n k both carrier off. recurrence_telescopes.ratio n k (both.0, (both.1, tt)) carrier off;
+    ranges = λ p.n lo count both poles.
+        subst (λ (g : ℤ → Fraction). sum_over_range g lo count ≈ between_ends (certificate c p.n) lo count) (λ i p.k. same_side value a c p i)
+        (recurrence_telescopes.ranges p.n lo count (λ i l. ((both i l).0, ((both i l).1, tt))) poles);
+    ratio = λ p both carrier off. recurrence_telescopes.ratio p (both.0, (both.1, tt)) carrier off;
   }
 
   pub pair_sums_vanish : (ends : Ends) → GiveEnds f ends → PairSumsVanish value ends a c
-  pair_sums_vanish ends give n lowest highest between both poles =
+  pair_sums_vanish ends give p.n lowest highest between both poles =
       let s : ℤ → Fraction = natural_sum value ends in
-      subst (λ z. z ≈ of_whole (pos 0)) (same_side (λ m k. s m) a c n (pos 0))
+      subst (λ z. z ≈ of_whole (pos 0)) (same_side (λ m p.k. s m) a c p.n (pos 0))
       (natural_sums_vanish f value ends 1 (pair_recurrence a c) has give
-      (certified.goes_with.carrier ∙ are.carrier) refl recurrence_telescopes.ranges n lowest highest each
-      (record { defined = λ k l u. ((both k l u).0, ((both k l u).1, tt)); poles = poles }))
+      (certified.goes_with.carrier ∙ are.carrier) refl recurrence_telescopes.ranges p.n lowest highest each
+      (record { defined = λ p.k l u. ((both p.k l u).0, ((both p.k l u).1, tt)); poles = poles }))
     where
-      here : n +ℤ pos 0 ≡ n
+      here : p.n +ℤ pos 0 ≡ p.n
       here = omega (arith, ints)
 
-      each : (j : ℕ) → j < 2 → (lowest ≤ℤ ends.low (n +ℤ pos j)) × (ends.high (n +ℤ pos j) ≤ℤ highest)
+      each : (j : ℕ) → j < 2 → (lowest ≤ℤ ends.low (p.n +ℤ pos j)) × (ends.high (p.n +ℤ pos j) ≤ℤ highest)
       each zero l = (
         subst (λ (m : ℤ). lowest ≤ℤ ends.low m) (sym here) between.low_here,
         subst (λ (m : ℤ). ends.high m ≤ℤ highest) (sym here) between.high_here,

@@ -2,6 +2,7 @@
 -- is undefined, n rising and then k.
 use Rattle.std.specs.Prelude.{◌≡◌, ℤ, pos, ◌<ℤ◌, ◌⊎◌}
 use Rattle.ring_laws.specs.Meaning.{Meaning}
+use Rattle.hypergeometric.specs.Point.{Point, point}
 use Rattle.hypergeometric.specs.Fraction.{Fraction, of_whole}
 use Rattle.hypergeometric.specs.Claim.{Claim}
 use Rattle.term_classes.specs.Divisors.{lowest_terms}
@@ -10,27 +11,27 @@ use Rattle.pair_laws.specs.Companion.{Box, IsInBox, HasPoints, IsClearAt, IsClea
 -- what is said of a box: two sums, or a point
 pub data BoxSums : Type 0 where
   sides : (left right : Fraction) → BoxSums
-  undefined_at : (n k : ℤ) → BoxSums
+  undefined_at : (p : Point) → BoxSums
 
 -- the point comes before the other one
-abbrev pub ComesBefore : ℤ → ℤ → ℤ → ℤ → Type 0
-ComesBefore m l n k = (m <ℤ n) ⊎ ((m ≡ n) × (l <ℤ k))
+abbrev pub ComesBefore : ℤ → Point → ℤ → Type 0
+ComesBefore m l p = (m <ℤ p.n) ⊎ ((m ≡ p.n) × (l <ℤ p.k))
 
 -- the point is in the box, something is undefined there, and nothing is at the points of the box before it
-pub record IsFirstUndefined (value : ℤ → ℤ → Fraction) (a : Meaning) (c : Claim) (b : Box) (n k : ℤ) : Type 0 where
-  pub inside : IsInBox b n k
-  pub undefined : ¬ IsClearAt value a c n k
-  pub before : (m l : ℤ) → IsInBox b m l → ComesBefore m l n k → IsClearAt value a c m l
+pub record IsFirstUndefined (value : Point → Fraction) (a : Meaning) (c : Claim) (b : Box) (p : Point) : Type 0 where
+  pub inside : IsInBox b p
+  pub undefined : ¬ IsClearAt value a c p
+  pub before : (m l : ℤ) → IsInBox b m l → ComesBefore m l p → IsClearAt value a c m l
 
 -- the box has points and is clear, and these are its two sums in lowest terms
-pub record AreSides (value : ℤ → ℤ → Fraction) (a : Meaning) (c : Claim) (b : Box) (left right : Fraction) : Type 0 where
+pub record AreSides (value : Point → Fraction) (a : Meaning) (c : Claim) (b : Box) (left right : Fraction) : Type 0 where
   pub some : HasPoints b
   pub clear : IsClearBox value a c b
   pub left_is : left ≡ lowest_terms (left_sum a c b)
   pub right_is : right ≡ lowest_terms (right_sum value b)
 
 -- what is right to say of a box
-abbrev pub AreBoxSums : (ℤ → ℤ → Fraction) → Meaning → Claim → Box → BoxSums → Type 0
+abbrev pub AreBoxSums : (Point → Fraction) → Meaning → Claim → Box → BoxSums → Type 0
 AreBoxSums value a c b (sides left right) =
     ((¬ HasPoints b) × (left ≡ of_whole (pos 0)) × (right ≡ of_whole (pos 0))) ⊎ AreSides value a c b left right
-AreBoxSums value a c b (undefined_at n k) = IsFirstUndefined value a c b n k
+AreBoxSums value a c b (undefined_at p) = IsFirstUndefined value a c b p

@@ -6,6 +6,7 @@ use Rattle.poly_laws.specs.Values.{level}
 use Rattle.poly_laws.proofs.Equal.{level_laws}
 use Rattle.poly_laws.proofs.Keeps.{value_at_keeps}
 use Rattle.poly_laws.proofs.ListLaws.{product_nought, nought_product, neg_nought}
+use Rattle.hypergeometric.specs.Point.{values}
 use Rattle.hypergeometric.specs.LinearForm.{Factor, FactorList}
 use Rattle.hypergeometric.specs.FormOrder.{IsSorted}
 use Rattle.lin_form.specs.Products.{list_polynomial}
@@ -73,7 +74,7 @@ module _ (normal : Normal) (q0 r0 : FactorList) (is : IsNormalFormOf normal q0 r
   of_g : list_in normal.g ≡ forms_in_k (gosper_forms normal.matches)
   of_g =
       same_polynomials (list_in normal.g) (forms_in_k (gosper_forms normal.matches))
-      (λ n k. value_of normal.g n k ∙ g_value n k normal q0 r0 is ∙ sym (forms_alone (gosper_forms normal.matches) n k))
+      (λ p. value_of normal.g p ∙ g_value p normal q0 r0 is ∙ sym (forms_alone (gosper_forms normal.matches) p))
 
   some_g : ¬ (list_in q0 ≡ in_k.nought) → ¬ (list_in normal.g ≡ in_k.nought)
   some_g some z =
@@ -85,7 +86,7 @@ module _ (normal : Normal) (q0 r0 : FactorList) (is : IsNormalFormOf normal q0 r
   shifted_zero : (w : ℤ) → shift_by w in_k.nought ≡ in_k.nought
   shifted_zero w =
       same_polynomials (shift_by w in_k.nought) in_k.nought
-      (λ n k. shift_at w in_k.nought n k ∙ (value_at_keeps ((k +ℤ w) ∷ n ∷ [])).nought ∙ sym (value_at_keeps (k ∷ n ∷ [])).nought)
+      (λ p. shift_at w in_k.nought p ∙ (value_at_keeps ((p.k +ℤ w) ∷ p.n ∷ [])).nought ∙ sym (value_at_keeps (values p)).nought)
 
   no_difference : (a b : Polynomial (level 1)) → in_k.sum (in_k.product a in_k.nought) (in_k.neg (in_k.product b in_k.nought)) ≡ in_k.nought
   no_difference a b =

@@ -10,6 +10,7 @@ use Rattle.poly_laws.proofs.ListLaws.{product_nought, nought_product}
 use Rattle.poly_laws.proofs.OneQuotient.{NoDivisors}
 use Rattle.poly_laws.proofs.PolyDomain.{no_divisors_within, poly_domain}
 use Rattle.poly_laws.proofs.PolyLaws.{poly_ring}
+use Rattle.hypergeometric.specs.Point.{later_k}
 use Rattle.hypergeometric.specs.LinearForm.{LinearForm, Factor}
 use Rattle.lin_form.specs.FactorLists.{factor_with}
 use Rattle.term_pieces.proofs.FormValues.{later_k_value, joined_value, lone_value}
@@ -36,18 +37,18 @@ IsNone x = x ≡ in_k.nought
 pub joined_forms : (xs ys : List Factor) → forms_in_k (xs ++ ys) ≡ in_k.product (forms_in_k xs) (forms_in_k ys)
 joined_forms xs ys =
     same_polynomials (forms_in_k (xs ++ ys)) (in_k.product (forms_in_k xs) (forms_in_k ys))
-    (λ n k. forms_alone (xs ++ ys) n k ∙ joined_value xs ys n k
-    ∙ sym (product_at (forms_in_k xs) (forms_in_k ys) n k ∙ (λ i. forms_alone xs n k i *ℤ forms_alone ys n k i)))
+    (λ p. forms_alone (xs ++ ys) p ∙ joined_value xs ys p
+    ∙ sym (product_at (forms_in_k xs) (forms_in_k ys) p ∙ (λ i. forms_alone xs p i *ℤ forms_alone ys p i)))
 
 -- a form at k - h, to a power
 earlier_form : (s : LinearForm) (h e : ℕ)
     → forms_in_k (factor_with (at_earlier_k s h) e ∷ []) ≡ shift_by (neg_ℤ (pos h)) (forms_in_k (factor_with s e ∷ []))
 earlier_form s h e =
     same_polynomials (forms_in_k (factor_with (at_earlier_k s h) e ∷ [])) (shift_by (neg_ℤ (pos h)) (forms_in_k (factor_with s e ∷ [])))
-    (λ n k. forms_alone (factor_with (at_earlier_k s h) e ∷ []) n k ∙ lone_value (at_earlier_k s h) e n k
-    ∙ ap (λ t. pow t e) (later_k_value s (neg_ℤ (pos h)) n k)
-    ∙ sym (shift_at (neg_ℤ (pos h)) (forms_in_k (factor_with s e ∷ [])) n k
-    ∙ forms_alone (factor_with s e ∷ []) n (k +ℤ neg_ℤ (pos h)) ∙ lone_value s e n (k +ℤ neg_ℤ (pos h))))
+    (λ p. forms_alone (factor_with (at_earlier_k s h) e ∷ []) p ∙ lone_value (at_earlier_k s h) e p
+    ∙ ap (λ t. pow t e) (later_k_value s (neg_ℤ (pos h)) p)
+    ∙ sym (shift_at (neg_ℤ (pos h)) (forms_in_k (factor_with s e ∷ [])) p
+    ∙ forms_alone (factor_with s e ∷ []) (later_k p (neg_ℤ (pos h))) ∙ lone_value s e (later_k p (neg_ℤ (pos h)))))
 
 pub not_product : (x y : Polynomial (level 1)) → ¬ IsNone x → ¬ IsNone y → ¬ IsNone (in_k.product x y)
 not_product x y m n e = ⊎_elim m n (no_divisors x y e)

@@ -9,6 +9,7 @@ use Rattle.poly_laws.specs.Values.{level}
 use Rattle.poly_laws.proofs.Equal.{level_laws}
 use Rattle.poly_laws.proofs.Keeps.{value_at_keeps}
 use Rattle.poly_laws.proofs.PolyDomain.{poly_domain}
+use Rattle.hypergeometric.specs.Point.{Point, values}
 use Rattle.hypergeometric.specs.LinearForm.{LinearForm, Factor, FactorList, form_value}
 use Rattle.hypergeometric.specs.ProperTerm.{ProperTerm, HasFractions, poly_value}
 use Rattle.lin_form.specs.FactorLists.{factor_with}
@@ -34,21 +35,21 @@ power_zero : (z : ℤ) → pow z 0 ≡ pos 1
 unfolding pow lib.IntN.one
 power_zero z = refl
 
-power_at : (f : LinearForm) (n k : ℤ) (e : ℕ) → poly_value (forms_in_k (factor_with f e ∷ [])).0 n k ≡ pow (form_value f n k) e
-power_at f n k e = forms_alone (factor_with f e ∷ []) n k ∙ lone_value f e n k
+power_at : (f : LinearForm) (p : Point) (e : ℕ) → poly_value (forms_in_k (factor_with f e ∷ [])).0 p ≡ pow (form_value f p) e
+power_at f p e = forms_alone (factor_with f e ∷ []) p ∙ lone_value f e p
 
 pub no_power : (f : LinearForm) → forms_in_k (factor_with f 0 ∷ []) ≡ forms_in_k []
 no_power f =
     same_polynomials (forms_in_k (factor_with f 0 ∷ [])) (forms_in_k [])
-    (λ n k. power_at f n k 0 ∙ power_zero (form_value f n k) ∙ sym (forms_alone [] n k))
+    (λ p. power_at f p 0 ∙ power_zero (form_value f p) ∙ sym (forms_alone [] p))
 
 pub power_step : (f : LinearForm) (e : ℕ)
     → forms_in_k (factor_with f (suc e) ∷ []) ≡ in_k.product (forms_in_k (factor_with f 1 ∷ [])) (forms_in_k (factor_with f e ∷ []))
 power_step f e =
     same_polynomials (forms_in_k (factor_with f (suc e) ∷ [])) (in_k.product (forms_in_k (factor_with f 1 ∷ [])) (forms_in_k (factor_with f e ∷ [])))
-    (λ n k. power_at f n k (suc e) ∙ pow-succ' (form_value f n k) e ∙ ap (λ t. t *ℤ pow (form_value f n k) e) (sym (power_one (form_value f n k)))
-    ∙ sym (product_at (forms_in_k (factor_with f 1 ∷ [])) (forms_in_k (factor_with f e ∷ [])) n k
-    ∙ (λ i. power_at f n k 1 i *ℤ power_at f n k e i)))
+    (λ p. power_at f p (suc e) ∙ pow-succ' (form_value f p) e ∙ ap (λ t. t *ℤ pow (form_value f p) e) (sym (power_one (form_value f p)))
+    ∙ sym (product_at (forms_in_k (factor_with f 1 ∷ [])) (forms_in_k (factor_with f e ∷ [])) p
+    ∙ (λ i. power_at f p 1 i *ℤ power_at f p e i)))
 
 -- a form with a k slope that isn't 0 has other values than 0
 slope_of_values : (a b c : ℤ) → a *ℤ pos 0 +ℤ b *ℤ pos 0 +ℤ c ≡ pos 0 → a *ℤ pos 0 +ℤ b *ℤ pos 1 +ℤ c ≡ pos 0 → b ≡ pos 0
@@ -86,9 +87,9 @@ product_some l number forms is not_zero h z =
     parts : list_in l ≡ in_k.product (in_k.whole number) (forms_in_k forms)
     parts =
         same_polynomials (list_in l) (in_k.product (in_k.whole number) (forms_in_k forms))
-        (λ n k. value_of l n k ∙ product_value n k l number forms is
-        ∙ sym (product_at (in_k.whole number) (forms_in_k forms) n k
-        ∙ (λ i. (value_at_keeps (k ∷ n ∷ [])).whole number i *ℤ forms_alone forms n k i)))
+        (λ p. value_of l p ∙ product_value p l number forms is
+        ∙ sym (product_at (in_k.whole number) (forms_in_k forms) p
+        ∙ (λ i. (value_at_keeps (values p)).whole number i *ℤ forms_alone forms p i)))
 
 pub q0_some : (f : ProperTerm) (pieces : Pieces) (order : ℕ) → HasFractions f → ArePiecesOf pieces f order
     → ¬ (list_polynomial pieces.q0 ≡ (level 2).ops.nought)

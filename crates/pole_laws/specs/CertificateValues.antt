@@ -2,17 +2,18 @@
 use Rattle.std.specs.Prelude.{◌≡◌, ℕ, suc, ℤ, pos, negsuc, ◌+ℤ◌, ◌-ℤ◌, ◌*ℤ◌, List, [], ◌∷◌}
 use Rattle.ring_laws.specs.Meaning.{Meaning}
 use Rattle.poly_laws.specs.Values.{value_at}
+use Rattle.hypergeometric.specs.Point.{Point, point, values_in_n, later_k}
 use Rattle.hypergeometric.specs.ProperTerm.{poly_value}
 
 -- a_0(n) p_0(n,k) + a_1(n) p_1(n,k) + ..
 abbrev pub combination_value : (ℕ → Meaning) → List Meaning → ℤ → ℤ → ℤ
-combination_value multipliers [] n k = pos 0
-combination_value multipliers (p ∷ ps) n k =
-    value_at (n ∷ []) (multipliers 0) *ℤ poly_value p n k +ℤ combination_value (λ j. multipliers (suc j)) ps n k
+combination_value multipliers [] p = pos 0
+combination_value multipliers (poly ∷ ps) p =
+    value_at (values_in_n p) (multipliers 0) *ℤ poly_value poly p +ℤ combination_value (λ j. multipliers (suc j)) ps p
 
 -- q0(n,k) Y(n,k+1) D(n,k) - r0(n,k-1) Y(n,k) D(n,k+1) is that sum times D(n,k) D(n,k+1)
-abbrev pub HoldsAt : (q0 r0 : Meaning) → List Meaning → Meaning → (ℕ → Meaning) → Meaning → ℤ → ℤ → Type 0
-HoldsAt q0 r0 tops y multipliers poles n k =
-    poly_value q0 n k *ℤ (poly_value y n (k +ℤ pos 1) *ℤ poly_value poles n k)
-    -ℤ poly_value r0 n (k +ℤ negsuc 0) *ℤ (poly_value y n k *ℤ poly_value poles n (k +ℤ pos 1))
-    ≡ combination_value multipliers tops n k *ℤ (poly_value poles n k *ℤ poly_value poles n (k +ℤ pos 1))
+abbrev pub HoldsAt : (q0 r0 : Meaning) → List Meaning → Meaning → (ℕ → Meaning) → Meaning → Point → Type 0
+HoldsAt q0 r0 tops y multipliers poles p =
+    poly_value q0 p *ℤ (poly_value y (later_k p (pos 1)) *ℤ poly_value poles p)
+    -ℤ poly_value r0 (later_k p (negsuc 0)) *ℤ (poly_value y p *ℤ poly_value poles (later_k p (pos 1)))
+    ≡ combination_value multipliers tops p *ℤ (poly_value poles p *ℤ poly_value poles (later_k p (pos 1)))

@@ -3,6 +3,7 @@ use Rattle.std.proofs.Common.{◌≡◌, ℕ, zero, suc, ◌*◌, ◌^◌, ◌<�
 use Rattle.std.proofs.Math.Nat.{pow-zero, pow-succ'}
 use Rattle.std.proofs.lemmas.Int.{ints}
 use Rattle.std.specs.Prelude.{ℤ, pos, negsuc, ◌*ℤ◌, ◌≤ℤ◌, unsigned_abs}
+use Rattle.hypergeometric.specs.Point.{Point}
 use Rattle.hypergeometric.specs.Fraction.{IsDefined, ◌≈◌, of_whole, fraction_product, natural_power}
 use Rattle.hypergeometric.specs.LinearForm.{Factor, form_value, factorial, factorial_value, inverse_factorial_value, product_over}
 use Rattle.hypergeometric.specs.ProperTerm.{ProperTerm, NoneNegative}
@@ -34,22 +35,22 @@ factorial_below : (z : ℤ) → pos 0 ≤ℤ z → inverse_factorial_value z ≡
 factorial_below (pos m) h = refl
 factorial_below (negsuc m) h = absurd (omega (arith, ints, h))
 
-up_product : (xs : List Factor) (n k : ℤ) → NoneNegative xs n k
-    → product_over factorial_value xs n k ≡ of_whole (pos (factorials (arguments_at n k xs)))
-up_product [] n k h = refl
-up_product (x ∷ xs) n k h =
-    ap (λ f. fraction_product (natural_power f x.power) (product_over factorial_value xs n k)) (factorial_above (form_value x.form n k) h.0)
-    ∙ ap (λ f. fraction_product f (product_over factorial_value xs n k)) (power_above (factorial (unsigned_abs (form_value x.form n k))) x.power)
-    ∙ ap (fraction_product (of_whole (pos (factorial (unsigned_abs (form_value x.form n k)) ^ x.power)))) (up_product xs n k h.1)
+up_product : (xs : List Factor) (p : Point) → NoneNegative xs p
+    → product_over factorial_value xs p ≡ of_whole (pos (factorials (arguments_at p xs)))
+up_product [] p h = refl
+up_product (x ∷ xs) p h =
+    ap (λ f. fraction_product (natural_power f x.power) (product_over factorial_value xs p)) (factorial_above (form_value x.form p) h.0)
+    ∙ ap (λ f. fraction_product f (product_over factorial_value xs p)) (power_above (factorial (unsigned_abs (form_value x.form p))) x.power)
+    ∙ ap (fraction_product (of_whole (pos (factorial (unsigned_abs (form_value x.form p)) ^ x.power)))) (up_product xs p h.1)
 
-down_product : (xs : List Factor) (n k : ℤ) → NoneNegative xs n k
-    → product_over inverse_factorial_value xs n k ≡ quotient 1 (factorials (arguments_at n k xs))
-down_product [] n k h = refl
-down_product (x ∷ xs) n k h =
-    ap (λ f. fraction_product (natural_power f x.power) (product_over inverse_factorial_value xs n k)) (factorial_below (form_value x.form n k) h.0)
-    ∙ ap (λ f. fraction_product f (product_over inverse_factorial_value xs n k))
-    (power_below (factorial (unsigned_abs (form_value x.form n k))) x.power)
-    ∙ ap (fraction_product (quotient 1 (factorial (unsigned_abs (form_value x.form n k)) ^ x.power))) (down_product xs n k h.1)
+down_product : (xs : List Factor) (p : Point) → NoneNegative xs p
+    → product_over inverse_factorial_value xs p ≡ quotient 1 (factorials (arguments_at p xs))
+down_product [] p h = refl
+down_product (x ∷ xs) p h =
+    ap (λ f. fraction_product (natural_power f x.power) (product_over inverse_factorial_value xs p)) (factorial_below (form_value x.form p) h.0)
+    ∙ ap (λ f. fraction_product f (product_over inverse_factorial_value xs p))
+    (power_below (factorial (unsigned_abs (form_value x.form p))) x.power)
+    ∙ ap (fraction_product (quotient 1 (factorial (unsigned_abs (form_value x.form p)) ^ x.power))) (down_product xs p h.1)
 
 positive_defined : (t b : ℕ) → 0 < b → IsDefined (quotient t b)
 positive_defined t b h e = omega (arith, ints, h, e)
@@ -64,22 +65,22 @@ cross_quotients t b u d e = ap pos (side t d ∙ sym e ∙ other u b)
     other u b = omega arith
 
 -- the quotient of the factorials, without common factors
-pub factorials_kept : (f : ProperTerm) (n k : ℤ) → NoneNegative f.up n k → NoneNegative f.down n k
-    → IsDefined (fraction_product (product_over factorial_value f.up n k) (product_over inverse_factorial_value f.down n k))
-    → product_of (factorial_factors f n k)
-    ≈ fraction_product (product_over factorial_value f.up n k) (product_over inverse_factorial_value f.down n k)
-factorials_kept f n k up down defined =
-    let us = arguments_at n k f.up in
-    let ds = arguments_at n k f.down in
+pub factorials_kept : (f : ProperTerm) (p : Point) → NoneNegative f.up p → NoneNegative f.down p
+    → IsDefined (fraction_product (product_over factorial_value f.up p) (product_over inverse_factorial_value f.down p))
+    → product_of (factorial_factors f p)
+    ≈ fraction_product (product_over factorial_value f.up p) (product_over inverse_factorial_value f.down p)
+factorials_kept f p up down defined =
+    let us = arguments_at p f.up in
+    let ds = arguments_at p f.down in
     let left = product_quotients (left_over us ds) (left_over ds us) in
-    let right : fraction_product (product_over factorial_value f.up n k) (product_over inverse_factorial_value f.down n k)
+    let right : fraction_product (product_over factorial_value f.up p) (product_over inverse_factorial_value f.down p)
     ≡ quotient (factorials us * 1) (1 * factorials ds) =
-    ap (λ g. fraction_product g (product_over inverse_factorial_value f.down n k)) (up_product f.up n k up)
-    ∙ ap (fraction_product (of_whole (pos (factorials us)))) (down_product f.down n k down) in
+    ap (λ g. fraction_product g (product_over inverse_factorial_value f.down p)) (up_product f.up p up)
+    ∙ ap (fraction_product (of_whole (pos (factorials us)))) (down_product f.down p down) in
     let d : IsDefined (quotient (factorials us * 1) (1 * factorials ds)) = subst IsDefined right defined in
     let e : quotient (list_product (left_over us ds)) (list_product (left_over ds us)) ≈ quotient (factorials us * 1) (1 * factorials ds) = record {
       left_defined = positive_defined (list_product (left_over us ds)) (list_product (left_over ds us)) (left_over_positive ds us);
       right_defined = d;
       cross = cross_quotients (list_product (left_over us ds)) (list_product (left_over ds us)) (factorials us) (factorials ds) (cancelled us ds);
     } in
-    subst (λ g. product_of (factorial_factors f n k) ≈ g) (sym right) (subst (λ g. g ≈ quotient (factorials us * 1) (1 * factorials ds)) (sym left) e)
+    subst (λ g. product_of (factorial_factors f p) ≈ g) (sym right) (subst (λ g. g ≈ quotient (factorials us * 1) (1 * factorials ds)) (sym left) e)

@@ -4,6 +4,7 @@ use Rattle.std.specs.Prelude.{if◌then◌else◌, ℤ, pos, ◌≤ℤ◌}
 use Rattle.std.specs.List.{AllByRecursion}
 use Rattle.std.specs.Ordering.{int_eq}
 use Rattle.std.proofs.lemmas.Bool.Decides.{Decides-int_eq}
+use Rattle.hypergeometric.specs.Point.{Point}
 use Rattle.hypergeometric.specs.LinearForm.{Factor, form_value}
 use Rattle.hypergeometric.specs.ProperTerm.{NoneNegative, NoneZero}
 use Rattle.lin_form.proofs.ListProducts.{from_index}
@@ -40,10 +41,10 @@ all_from P xs i x e h p = (
 )
 
 -- no value is negative, and none is 0, as facts of each item
-pub negative_all : (xs : List Factor) (n k : ℤ) → NoneNegative xs n k ↔ AllByRecursion (λ x. pos 0 ≤ℤ form_value x.form n k) xs
-negative_all [] n k = (λ h. h, λ h. h)
-negative_all (x ∷ xs) n k = (λ h. (h.0, (negative_all xs n k).0 h.1), λ h. (h.0, (negative_all xs n k).1 h.1))
+pub negative_all : (xs : List Factor) (p : Point) → NoneNegative xs p ↔ AllByRecursion (λ x. pos 0 ≤ℤ form_value x.form p) xs
+negative_all [] p = (λ h. h, λ h. h)
+negative_all (x ∷ xs) p = (λ h. (h.0, (negative_all xs p).0 h.1), λ h. (h.0, (negative_all xs p).1 h.1))
 
-pub zero_all : (xs : List Factor) (n k : ℤ) → NoneZero xs n k ↔ AllByRecursion (λ x. form_value x.form n k ≢ pos 0) xs
-zero_all [] n k = (λ h. h, λ h. h)
-zero_all (x ∷ xs) n k = (λ h. (h.0, (zero_all xs n k).0 h.1), λ h. (h.0, (zero_all xs n k).1 h.1))
+pub zero_all : (xs : List Factor) (p : Point) → NoneZero xs p ↔ AllByRecursion (λ x. form_value x.form p ≢ pos 0) xs
+zero_all [] p = (λ h. h, λ h. h)
+zero_all (x ∷ xs) p = (λ h. (h.0, (zero_all xs p).0 h.1), λ h. (h.0, (zero_all xs p).1 h.1))

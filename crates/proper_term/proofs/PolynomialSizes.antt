@@ -10,6 +10,7 @@ use Rattle.ring_laws.specs.Meaning.{Meaning, number, listed, items, parted-joine
 use Rattle.ring_laws.specs.Wholes.{number_of, whole_algebra}
 use Rattle.poly_laws.specs.Evaluation.{list_value, ValueInBounds}
 use Rattle.poly_laws.specs.Values.{horner}
+use Rattle.hypergeometric.specs.Point.{Point, point, values}
 use Rattle.hypergeometric.specs.ProperTerm.{value_in_n}
 use Rattle.proper_term.specs.ValueBounds.{sizes, size_in_n}
 
@@ -73,17 +74,17 @@ coefficient_first f xs (suc i) x some within is =
     last i = omega arith
 
 -- where the next step is out of bounds, the whole is
-pub step_out : (n k v : ℤ) (ms : List Meaning) (power : ℕ) (m : Meaning) → 0 < power → power ≤ length ms → (k ≡ pos 0 → length ms ≤ 1)
-    → drop (power - 1) ms ≡ m ∷ drop power ms → v ≡ horner (λ c. value_in_n c n) k (drop power ms)
-    → ¬ (size_in_n n m + unsigned_abs k * unsigned_abs v < 2 ^ 127) → ¬ (sizes (size_in_n n) (unsigned_abs k) ms < 2 ^ 127)
-step_out n k v ms power m some within counted first is out small =
-    let size : unsigned_abs v ≤ sizes (size_in_n n) (unsigned_abs k) (drop power ms) =
-    subst (λ z. unsigned_abs z ≤ sizes (size_in_n n) (unsigned_abs k) (drop power ms)) (sym is)
-    (within_size (λ c. value_in_n c n) (size_in_n n) (within_size_in_n n) k (drop power ms)) in
-    let product = mul-le-mul_left (unsigned_abs k) size in
-    let less : sizes (size_in_n n) (unsigned_abs k) (m ∷ drop power ms) ≤ sizes (size_in_n n) (unsigned_abs k) ms =
-    subst (λ t. sizes (size_in_n n) (unsigned_abs k) t ≤ sizes (size_in_n n) (unsigned_abs k) ms) first
-    (later_less (size_in_n n) (unsigned_abs k) ms (power - 1) (λ e. counted (zero_size k e)) (omega (arith, some, within))) in
+pub step_out : (p : Point) (v : ℤ) (ms : List Meaning) (power : ℕ) (m : Meaning) → 0 < power → power ≤ length ms → (p.k ≡ pos 0 → length ms ≤ 1)
+    → drop (power - 1) ms ≡ m ∷ drop power ms → v ≡ horner (λ c. value_in_n c p.n) p.k (drop power ms)
+    → ¬ (size_in_n p.n m + unsigned_abs p.k * unsigned_abs v < 2 ^ 127) → ¬ (sizes (size_in_n p.n) (unsigned_abs p.k) ms < 2 ^ 127)
+step_out p v ms power m some within counted first is out small =
+    let size : unsigned_abs v ≤ sizes (size_in_n p.n) (unsigned_abs p.k) (drop power ms) =
+    subst (λ z. unsigned_abs z ≤ sizes (size_in_n p.n) (unsigned_abs p.k) (drop power ms)) (sym is)
+    (within_size (λ c. value_in_n c p.n) (size_in_n p.n) (within_size_in_n p.n) p.k (drop power ms)) in
+    let product = mul-le-mul_left (unsigned_abs p.k) size in
+    let less : sizes (size_in_n p.n) (unsigned_abs p.k) (m ∷ drop power ms) ≤ sizes (size_in_n p.n) (unsigned_abs p.k) ms =
+    subst (λ t. sizes (size_in_n p.n) (unsigned_abs p.k) t ≤ sizes (size_in_n p.n) (unsigned_abs p.k) ms) first
+    (later_less (size_in_n p.n) (unsigned_abs p.k) ms (power - 1) (λ e. counted (zero_size p.k e)) (omega (arith, some, within))) in
     out (omega (arith, product, less, small))
   where
     zero_size : (z : ℤ) → unsigned_abs z ≡ 0 → z ≡ pos 0

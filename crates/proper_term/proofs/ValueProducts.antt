@@ -2,6 +2,7 @@
 use Rattle.std.proofs.Common.{◌≡◌, ◌≢◌, ℕ, zero, suc, refl, ap, sym, ◌∙◌, subst, List, [], ◌∷◌, ◌++◌}
 use Rattle.std.specs.Prelude.{ℤ, pos, negsuc, ◌*ℤ◌, replicate}
 use Rattle.ring_solver.proofs.Read.{ring_z, reading_z}
+use Rattle.hypergeometric.specs.Point.{Point}
 use Rattle.hypergeometric.specs.Fraction.{Fraction, IsDefined, ◌≈◌, of_whole, fraction_product, fraction_inverse, natural_power, whole_power}
 use Rattle.hypergeometric.specs.LinearForm.{Factor, form_value, factorial_value, inverse_factorial_value, product_over}
 use Rattle.hypergeometric.specs.ProperTerm.{ProperTerm, NoneNegative, NoneZero, IsDefinedAt, IsNonzero, HasFractions, poly_value, proper_value}
@@ -51,17 +52,17 @@ one_over z h = record { left_defined = h; right_defined = product_not_zero z (po
     cross z = ring_z (z ∷ []) (search reading_z depth 40 fits 20000) refl
 
 -- the forms of over
-divisors_kept : (xs : List Factor) (n k : ℤ) → NoneZero xs n k
-    → product_of (divisors xs n k) ≈ product_over (λ z. fraction_inverse (of_whole z)) xs n k
-divisors_kept [] n k h = equal_to_itself (of_whole (pos 1)) one_not_zero
-divisors_kept (x ∷ xs) n k h =
-    let z = form_value x.form n k in
-    let rest = divisors_kept xs n k h.1 in
+divisors_kept : (xs : List Factor) (p : Point) → NoneZero xs p
+    → product_of (divisors xs p) ≈ product_over (λ z. fraction_inverse (of_whole z)) xs p
+divisors_kept [] p h = equal_to_itself (of_whole (pos 1)) one_not_zero
+divisors_kept (x ∷ xs) p h =
+    let z = form_value x.form p in
+    let rest = divisors_kept xs p h.1 in
     let each : natural_power (record { top = pos 1; bottom = z }) x.power ≈ natural_power (fraction_inverse (of_whole z)) x.power =
     equal_powers (record { top = pos 1; bottom = z }) (fraction_inverse (of_whole z)) x.power (one_over z h.0) in
     let copies : product_of (replicate x.power (record { top = pos 1; bottom = z })) ≈ natural_power (fraction_inverse (of_whole z)) x.power =
     subst (λ g. g ≈ natural_power (fraction_inverse (of_whole z)) x.power) (sym (product_copies x.power (record { top = pos 1; bottom = z }))) each in
-    equal_chain (product_joined (replicate x.power (record { top = pos 1; bottom = z })) (divisors xs n k) copies.left_defined rest.left_defined)
+    equal_chain (product_joined (replicate x.power (record { top = pos 1; bottom = z })) (divisors xs p) copies.left_defined rest.left_defined)
     (equal_products copies rest)
 
 same_parts : (f g : Fraction) → f.top ≡ g.top → f.bottom ≡ g.bottom → IsDefined f → f ≈ g
@@ -94,26 +95,26 @@ inner_defined s p a b u o l d =
     product_not_zero u.bottom o.bottom (left_factor_defined u (fraction_product o l) e)
     (left_factor_defined o l (right_factor_defined u (fraction_product o l) e))
 
-pub factors_value : (f : ProperTerm) (n k : ℤ) → HasFractions f → IsDefinedAt f n k → NoneNegative f.down n k
-    → fraction_product f.scale (product_of (value_factors f n k)) ≈ proper_value f n k
-factors_value f n k t d down =
-    let over = divisors_kept f.over n k d.over in
-    let whole = proper_value_defined f n k t d in
-    let ns = power_kept f.n_base n t.n_base in
-    let ks = power_kept f.k_base k t.k_base in
-    let p : Fraction = of_whole (poly_value f.poly n k) in
-    let u = product_over factorial_value f.up n k in
-    let o = product_over inverse_factorial_value f.down n k in
-    let l = product_over (λ z. fraction_inverse (of_whole z)) f.over n k in
-    let a = whole_power f.n_base n in
-    let b = whole_power f.k_base k in
-    let rest : product_of (of_whole (poly_value f.poly n k) ∷ base_power f.n_base n ∷ base_power f.k_base k ∷ divisors f.over n k)
-    ≈ fraction_product p (fraction_product a (fraction_product b l)) =
-    equal_products (equal_to_itself p one_not_zero) (equal_products ns (equal_products ks over)) in
-    let defined : IsDefined (fraction_product u o) = inner_defined f.scale p a b u o l whole in
-    let above = factorials_kept f n k d.up down defined in
-    let joined = equal_chain (product_joined (factorial_factors f n k) (of_whole
-    (poly_value f.poly n k) ∷ base_power f.n_base n ∷ base_power f.k_base k
-    ∷ divisors f.over n k) above.left_defined rest.left_defined) (equal_products above rest) in
+pub factors_value : (f : ProperTerm) (p : Point) → HasFractions f → IsDefinedAt f p → NoneNegative f.down p
+    → fraction_product f.scale (product_of (value_factors f p)) ≈ proper_value f p
+factors_value f p t d down =
+    let over = divisors_kept f.over p d.over in
+    let whole = proper_value_defined f p t d in
+    let ns = power_kept f.n_base p.n t.n_base in
+    let ks = power_kept f.k_base p.k t.k_base in
+    let e : Fraction = of_whole (poly_value f.poly p) in
+    let u = product_over factorial_value f.up p in
+    let o = product_over inverse_factorial_value f.down p in
+    let l = product_over (λ z. fraction_inverse (of_whole z)) f.over p in
+    let a = whole_power f.n_base p.n in
+    let b = whole_power f.k_base p.k in
+    let rest : product_of (of_whole (poly_value f.poly p) ∷ base_power f.n_base p.n ∷ base_power f.k_base p.k ∷ divisors f.over p)
+    ≈ fraction_product e (fraction_product a (fraction_product b l)) =
+    equal_products (equal_to_itself e one_not_zero) (equal_products ns (equal_products ks over)) in
+    let defined : IsDefined (fraction_product u o) = inner_defined f.scale e a b u o l whole in
+    let above = factorials_kept f p d.up down defined in
+    let joined = equal_chain (product_joined (factorial_factors f p) (of_whole
+    (poly_value f.poly p) ∷ base_power f.n_base p.n ∷ base_power f.k_base p.k
+    ∷ divisors f.over p) above.left_defined rest.left_defined) (equal_products above rest) in
     let scaled = equal_products (equal_to_itself f.scale t.scale.bottom) joined in
-    equal_chain scaled (reordered f.scale u o p a b l scaled.right_defined)
+    equal_chain scaled (reordered f.scale u o e a b l scaled.right_defined)

@@ -6,6 +6,7 @@ use Rattle.ring_solver.proofs.Read.{ring_z, reading_z}
 use Rattle.ring_laws.specs.Answer.{OnFault, fault_weaker}
 use Rattle.ring_laws.specs.declared.faults.RingFault.{RingFault}
 use Rattle.poly_fraction.specs.Fractions.{RingFraction}
+use Rattle.hypergeometric.specs.Point.{Point}
 use Rattle.hypergeometric.specs.Fraction.{Fraction, ◌≈◌, fraction_product, natural_power}
 use Rattle.hypergeometric.specs.ProperTerm.{ProperTerm, IsDefinedAt, NoneNegative, IsNonzero, HasFractions, proper_value}
 use Rattle.hypergeometric.specs.TermFacts.{IsLowest, IsProper}
@@ -61,38 +62,38 @@ proper_fractions f h = record {
 }
 
 -- what the run over all factors gives
-module _ {T : Type 0} (fraction : T → RingFraction) (f : ProperTerm) (n k : ℤ) (proper : IsProper f) where
-  pub value_of_run : (result : Result T RingFault) → IsDefinedAt f n k → NoneNegative f.down n k → GivesRun fraction f.scale
-      (value_factors f n k) result
-      → IfOk result (λ g. whole_fraction (fraction g) ≈ proper_value f n k)
+module _ {T : Type 0} (fraction : T → RingFraction) (f : ProperTerm) (p : Point) (proper : IsProper f) where
+  pub value_of_run : (result : Result T RingFault) → IsDefinedAt f p → NoneNegative f.down p → GivesRun fraction f.scale
+      (value_factors f p) result
+      → IfOk result (λ g. whole_fraction (fraction g) ≈ proper_value f p)
   value_of_run (Ok g) defined down h =
-      equal_chain (run_value f.scale (value_factors f n k) (whole_fraction (fraction g)) h (positive_not_zero f.scale.bottom proper.scale.positive))
-      (factors_value f n k (proper_fractions f proper) defined down)
+      equal_chain (run_value f.scale (value_factors f p) (whole_fraction (fraction g)) h (positive_not_zero f.scale.bottom proper.scale.positive))
+      (factors_value f p (proper_fractions f proper) defined down)
   value_of_run (Err fault) defined down h = tt
 
-  pub lowest_of_run : (result : Result T RingFault) → GivesRun fraction f.scale (value_factors f n k) result
+  pub lowest_of_run : (result : Result T RingFault) → GivesRun fraction f.scale (value_factors f p) result
       → IfOk result (λ g. IsInLowestTerms (whole_fraction (fraction g)))
-  lowest_of_run (Ok g) h = run_lowest f.scale (value_factors f n k) (whole_fraction (fraction g)) h (lowest_terms f.scale proper.scale)
+  lowest_of_run (Ok g) h = run_lowest f.scale (value_factors f p) (whole_fraction (fraction g)) h (lowest_terms f.scale proper.scale)
   lowest_of_run (Err fault) h = tt
 
-  pub fault_of_run : (result : Result T RingFault) → GivesRun fraction f.scale (value_factors f n k) result
-      → IfErr result (OnFault (¬ IsRunInBounds f n k))
+  pub fault_of_run : (result : Result T RingFault) → GivesRun fraction f.scale (value_factors f p) result
+      → IfErr result (OnFault (¬ IsRunInBounds f p))
   fault_of_run (Ok g) h = tt
   fault_of_run (Err fault) h = fault_weaker fault (λ no b. no b.run) h
 
 -- the quotient of the factorials isn't 0
-pub factorials_top : (f : ProperTerm) (n k : ℤ) (s : Fraction) → IsNonzero f.scale → Runs f.scale (factorial_factors f n k) s → s.top ≢ pos 0
-factorials_top f n k s h r e =
-    let us = arguments_at n k f.up in
-    let ds = arguments_at n k f.down in
-    let same = run_value f.scale (factorial_factors f n k) s r h.bottom in
+pub factorials_top : (f : ProperTerm) (p : Point) (s : Fraction) → IsNonzero f.scale → Runs f.scale (factorial_factors f p) s → s.top ≢ pos 0
+factorials_top f p s h r e =
+    let us = arguments_at p f.up in
+    let ds = arguments_at p f.down in
+    let same = run_value f.scale (factorial_factors f p) s r h.bottom in
     let parts = product_quotients (left_over us ds) (left_over ds us) in
-    let some : (product_of (factorial_factors f n k)).top ≢ pos 0 =
+    let some : (product_of (factorial_factors f p)).top ≢ pos 0 =
     λ z. omega (arith, ints, left_over_positive us ds, sym (ap (λ (x : Fraction). x.top) parts) ∙ z) in
-    product_not_zero (f.scale.top *ℤ (product_of (factorial_factors f n k)).top) s.bottom
+    product_not_zero (f.scale.top *ℤ (product_of (factorial_factors f p)).top) s.bottom
     (product_not_zero f.scale.top _ h.top some) same.left_defined
-    (sym same.cross ∙ ap (λ z. z *ℤ (fraction_product f.scale (product_of (factorial_factors f n k))).bottom) e
-    ∙ nothing (fraction_product f.scale (product_of (factorial_factors f n k))).bottom)
+    (sym same.cross ∙ ap (λ z. z *ℤ (fraction_product f.scale (product_of (factorial_factors f p))).bottom) e
+    ∙ nothing (fraction_product f.scale (product_of (factorial_factors f p))).bottom)
   where
     nothing : (z : ℤ) → pos 0 *ℤ z ≡ pos 0
     nothing z = ring_z (z ∷ []) (search reading_z depth 40 fits 20000) refl

@@ -6,6 +6,7 @@ use Rattle.std.specs.Int.{◌∣◌}
 use Rattle.std.specs.List.{AllByRecursion}
 use Rattle.std.specs.Prelude.{ℤ, pos, negsuc, ◌*ℤ◌, ◌<ℤ◌, ◌≤ℤ◌, unsigned_abs}
 use Rattle.ring_solver.proofs.Read.{ring_z, reading_z}
+use Rattle.hypergeometric.specs.Point.{Point}
 use Rattle.hypergeometric.specs.Fraction.{Fraction, IsDefined, ◌≈◌, of_whole, fraction_product, fraction_inverse, natural_power, whole_power}
 use Rattle.hypergeometric.specs.FormOrder.{IsFactor}
 use Rattle.hypergeometric.specs.LinearForm.{Factor, form_value, factorial_value, inverse_factorial_value, product_over}
@@ -37,12 +38,12 @@ zero_middle s p t e = ap (λ (z : ℤ). s.top *ℤ (z *ℤ t.top)) e ∙ nothing
     nothing a b = ring_z (a ∷ b ∷ []) (search reading_z depth 40 fits 20000) refl
 
 -- where the polynomial is 0, the value is
-pub zero_poly : (f : ProperTerm) (n k : ℤ) → poly_value f.poly n k ≡ pos 0 → (proper_value f n k).top ≡ pos 0
-zero_poly f n k e =
-    zero_middle f.scale (poly_value f.poly n k)
-    (fraction_product (whole_power f.n_base n) (fraction_product (whole_power f.k_base k)
-    (fraction_product (product_over factorial_value f.up n k) (fraction_product (product_over inverse_factorial_value f.down n k)
-    (product_over (λ z. fraction_inverse (of_whole z)) f.over n k))))) e
+pub zero_poly : (f : ProperTerm) (p : Point) → poly_value f.poly p ≡ pos 0 → (proper_value f p).top ≡ pos 0
+zero_poly f p e =
+    zero_middle f.scale (poly_value f.poly p)
+    (fraction_product (whole_power f.n_base p.n) (fraction_product (whole_power f.k_base p.k)
+    (fraction_product (product_over factorial_value f.up p) (fraction_product (product_over inverse_factorial_value f.down p)
+    (product_over (λ z. fraction_inverse (of_whole z)) f.over p))))) e
 
 zero_power : (p : ℕ) → 1 ≤ p → (natural_power (of_whole (pos 0)) p).top ≡ pos 0
 zero_power zero h = absurd (omega (arith, h))
@@ -52,10 +53,10 @@ zero_power (suc p) h = nothing (natural_power (of_whole (pos 0)) p).top
     nothing z = ring_z (z ∷ []) (search reading_z depth 40 fits 20000) refl
 
 -- a factorial below at a negative number makes the product 0
-zero_product : (xs : List Factor) (n k : ℤ) → AllByRecursion IsFactor xs → ¬ NoneNegative xs n k
-    → (product_over inverse_factorial_value xs n k).top ≡ pos 0
-zero_product [] n k h other = absurd (other tt)
-zero_product (x ∷ xs) n k h other = by (form_value x.form n k) refl (zero_product xs n k h.1)
+zero_product : (xs : List Factor) (p : Point) → AllByRecursion IsFactor xs → ¬ NoneNegative xs p
+    → (product_over inverse_factorial_value xs p).top ≡ pos 0
+zero_product [] p h other = absurd (other tt)
+zero_product (x ∷ xs) p h other = by (form_value x.form p) refl (zero_product xs p h.1)
   where
     left : (a b : ℤ) → a ≡ pos 0 → a *ℤ b ≡ pos 0
     left a b e = ap (λ (z : ℤ). z *ℤ b) e ∙ ring_z (b ∷ []) (search reading_z depth 40 fits 20000) refl
@@ -63,13 +64,13 @@ zero_product (x ∷ xs) n k h other = by (form_value x.form n k) refl (zero_prod
     right : (a b : ℤ) → b ≡ pos 0 → a *ℤ b ≡ pos 0
     right a b e = ap (λ (z : ℤ). a *ℤ z) e ∙ ring_z (a ∷ []) (search reading_z depth 40 fits 20000) refl
 
-    by : (z : ℤ) → form_value x.form n k ≡ z → (¬ NoneNegative xs n k → (product_over inverse_factorial_value xs n k).top ≡ pos 0)
-        → (product_over inverse_factorial_value (x ∷ xs) n k).top ≡ pos 0
+    by : (z : ℤ) → form_value x.form p ≡ z → (¬ NoneNegative xs p → (product_over inverse_factorial_value xs p).top ≡ pos 0)
+        → (product_over inverse_factorial_value (x ∷ xs) p).top ≡ pos 0
     by (pos m) e rest =
-        right (natural_power (inverse_factorial_value (form_value x.form n k)) x.power).top (product_over inverse_factorial_value xs n k).top
+        right (natural_power (inverse_factorial_value (form_value x.form p)) x.power).top (product_over inverse_factorial_value xs p).top
         (rest (λ others. other (subst (λ (z : ℤ). pos 0 ≤ℤ z) (sym e) (omega (arith, ints)), others)))
     by (negsuc m) e rest =
-        left (natural_power (inverse_factorial_value (form_value x.form n k)) x.power).top (product_over inverse_factorial_value xs n k).top
+        left (natural_power (inverse_factorial_value (form_value x.form p)) x.power).top (product_over inverse_factorial_value xs p).top
         (ap (λ (z : ℤ). (natural_power (inverse_factorial_value z) x.power).top) e ∙ zero_power x.power h.0.some)
 
 zero_inner : (s p a b u o l : Fraction) → o.top ≡ pos 0
@@ -80,7 +81,7 @@ zero_inner s p a b u o l e =
     nothing : (s p a b u l : ℤ) → s *ℤ (p *ℤ (a *ℤ (b *ℤ (u *ℤ (pos 0 *ℤ l))))) ≡ pos 0
     nothing s p a b u l = ring_z (s ∷ p ∷ a ∷ b ∷ u ∷ l ∷ []) (search reading_z depth 40 fits 20000) refl
 
-pub zero_down : (f : ProperTerm) (n k : ℤ) → AllByRecursion IsFactor f.down → ¬ NoneNegative f.down n k → (proper_value f n k).top ≡ pos 0
-zero_down f n k h other =
-    zero_inner f.scale (of_whole (poly_value f.poly n k)) (whole_power f.n_base n) (whole_power f.k_base k) (product_over factorial_value f.up n k)
-    (product_over inverse_factorial_value f.down n k) (product_over (λ z. fraction_inverse (of_whole z)) f.over n k) (zero_product f.down n k h other)
+pub zero_down : (f : ProperTerm) (p : Point) → AllByRecursion IsFactor f.down → ¬ NoneNegative f.down p → (proper_value f p).top ≡ pos 0
+zero_down f p h other =
+    zero_inner f.scale (of_whole (poly_value f.poly p)) (whole_power f.n_base p.n) (whole_power f.k_base p.k) (product_over factorial_value f.up p)
+    (product_over inverse_factorial_value f.down p) (product_over (λ z. fraction_inverse (of_whole z)) f.over p) (zero_product f.down p h other)

@@ -1,6 +1,7 @@
 -- What is left of a quotient of factorials where common factors are cancelled: of m! as 1 * 2 * .. * m, each number i of at least 2
 -- as often as it stands above more often than below, and the other way round.
 use Rattle.std.specs.Prelude.{ℕ, zero, suc, ◌+◌, ◌-◌, max, if◌then◌else◌, nat_le, pos, ℤ, unsigned_abs, List, [], ◌∷◌, ◌++◌, map, replicate}
+use Rattle.hypergeometric.specs.Point.{point, values}
 use Rattle.hypergeometric.specs.Fraction.{Fraction}
 use Rattle.hypergeometric.specs.LinearForm.{Factor, form_value}
 
@@ -11,7 +12,7 @@ pub record Argument : Type 0 where
 
 -- the values of the forms at a point at which none is negative
 abbrev pub arguments_at : ℤ → ℤ → List Factor → List Argument
-arguments_at n k xs = map (λ x. record { number = unsigned_abs (form_value x.form n k); power = x.power }) xs
+arguments_at p xs = map (λ x. record { number = unsigned_abs (form_value x.form p); power = x.power }) xs
 
 -- how often i stands in number! to a power: the power where i is at most the number, and else 0
 abbrev pub counted : ℕ → ℕ → ℕ → ℕ

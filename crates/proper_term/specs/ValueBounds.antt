@@ -2,6 +2,7 @@
 use Rattle.std.specs.Prelude.{ℕ, ◌+◌, ◌*◌, ◌^◌, ◌<◌, ℤ, pos, negsuc, suc, unsigned_abs, List, [], ◌∷◌, ◌++◌, replicate}
 use Rattle.ring_laws.specs.Meaning.{Meaning, items}
 use Rattle.ring_laws.specs.Wholes.{number_of}
+use Rattle.hypergeometric.specs.Point.{Point, point}
 use Rattle.hypergeometric.specs.Fraction.{Fraction, of_whole, natural_power}
 use Rattle.hypergeometric.specs.LinearForm.{Factor, form_value}
 use Rattle.hypergeometric.specs.ProperTerm.{ProperTerm, poly_value, IsDefinedAt, NoneNegative}
@@ -19,7 +20,7 @@ size_in_n n p = sizes (λ z. unsigned_abs (number_of z)) (unsigned_abs n) (items
 
 -- the sum of |coefficient| * |n|^i * |k|^j over all coefficients
 abbrev pub size_at : ℤ → ℤ → Meaning → ℕ
-size_at n k p = sizes (size_in_n n) (unsigned_abs k) (items p)
+size_at p e = sizes (size_in_n p.n) (unsigned_abs p.k) (items e)
 
 abbrev pub turned : Fraction → Fraction
 turned f = record { top = f.bottom; bottom = f.top }
@@ -31,24 +32,24 @@ base_power f (negsuc n) = natural_power (turned f) (suc n)
 
 -- one over the value of each form, as often as its power says
 abbrev pub divisors : List Factor → ℤ → ℤ → List Fraction
-divisors [] n k = []
-divisors (x ∷ xs) n k = replicate x.power (record { top = pos 1; bottom = form_value x.form n k }) ++ divisors xs n k
+divisors [] p = []
+divisors (x ∷ xs) p = replicate x.power (record { top = pos 1; bottom = form_value x.form p }) ++ divisors xs p
 
 -- the factors of the quotient of the factorials, without common ones
 abbrev pub factorial_factors : ProperTerm → ℤ → ℤ → List Fraction
-factorial_factors f n k =
-    quotients (left_over (arguments_at n k f.up) (arguments_at n k f.down)) (left_over (arguments_at n k f.down) (arguments_at n k f.up))
+factorial_factors f p =
+    quotients (left_over (arguments_at p f.up) (arguments_at p f.down)) (left_over (arguments_at p f.down) (arguments_at p f.up))
 
 -- all factors, in the order in which the scale is multiplied by them
 abbrev pub value_factors : ProperTerm → ℤ → ℤ → List Fraction
-value_factors f n k =
-    factorial_factors f n k ++ (of_whole (poly_value f.poly n k) ∷ base_power f.n_base n ∷ base_power f.k_base k ∷ divisors f.over n k)
+value_factors f p =
+    factorial_factors f p ++ (of_whole (poly_value f.poly p) ∷ base_power f.n_base p.n ∷ base_power f.k_base p.k ∷ divisors f.over p)
 
 -- the polynomial's value, as one operation, and the run of the factors are in bounds
-pub record IsRunInBounds (f : ProperTerm) (n k : ℤ) : Type 0 where
-  pub poly : size_at n k f.poly < 2 ^ 127
-  pub run : RunsInBounds f.scale (value_factors f n k)
+pub record IsRunInBounds (f : ProperTerm) (p : Point) : Type 0 where
+  pub poly : size_at p f.poly < 2 ^ 127
+  pub run : RunsInBounds f.scale (value_factors f p)
 
 -- where the term isn't defined, or a factorial below is that of a negative number, nothing is counted
-abbrev pub ValueInBounds : ProperTerm → ℤ → ℤ → Type 0
-ValueInBounds f n k = IsDefinedAt f n k → NoneNegative f.down n k → IsRunInBounds f n k
+abbrev pub ValueInBounds : ProperTerm → Point → Type 0
+ValueInBounds f p = IsDefinedAt f p → NoneNegative f.down p → IsRunInBounds f p

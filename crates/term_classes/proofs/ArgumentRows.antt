@@ -3,6 +3,7 @@ use Rattle.std.proofs.Common.{◌≡◌, ℕ, refl, ap, sym, ◌∙◌, [], ◌�
 use Rattle.std.specs.Prelude.{ℤ, pos, ◌+ℤ◌, ◌-ℤ◌, ◌*ℤ◌, neg_ℤ, if◌then◌else◌, Ok}
 use Rattle.ring_solver.proofs.Read.{ring_z, reading_z}
 use Rattle.ring_laws.specs.Meaning.{Meaning}
+use Rattle.hypergeometric.specs.Point.{Point}
 use Rattle.hypergeometric.specs.Fraction.{Fraction, of_whole, fraction_difference, fraction_product, whole_power}
 use Rattle.hypergeometric.specs.LinearForm.{LinearForm, form_value}
 use Rattle.hypergeometric.specs.ProperTerm.{ProperTerm, poly_value, IsNonzero, HasFractions}
@@ -30,17 +31,17 @@ use Rattle.term_classes.proofs.WalkRows.{factorial_row}
 
 -- the tree has the value of the form
 abbrev pub HasForm : Tree → LinearForm → Type 0
-HasForm t l = (n k : ℤ) → tree_value t (pos 1) n k ≅ of_whole (form_value l n k)
+HasForm t l = (p : Point) → tree_value t (pos 1) p ≅ of_whole (form_value l p)
 
-pub form_found : (reason : ℕ) (t : Tree) (p : Option Meaning) (l : LinearForm) → tree_polynomial t ≡ p
-    → (form_or_refused reason t (linear_form_of p)).outcome ≡ Ok l → HasForm t l
+pub form_found : (reason : ℕ) (t : Tree) (poly : Option Meaning) (l : LinearForm) → tree_polynomial t ≡ poly
+    → (form_or_refused reason t (linear_form_of poly)).outcome ≡ Ok l → HasForm t l
 form_found reason t None l is e = absurd (not_refused (improper reason (place_of t)) l e)
-form_found reason t (Some p) l is e = by (linear_form_of (Some p)) refl e
+form_found reason t (Some poly) l is e = by (linear_form_of (Some poly)) refl e
   where
-    by : (o : Option LinearForm) → linear_form_of (Some p) ≡ o → (form_or_refused reason t o).outcome ≡ Ok l → HasForm t l
+    by : (o : Option LinearForm) → linear_form_of (Some poly) ≡ o → (form_or_refused reason t o).outcome ≡ Ok l → HasForm t l
     by None q f = absurd (not_refused (improper reason (place_of t)) l f)
-    by (Some m) q f = λ n k. same_chain (tree_has t p is (pos 1) n k) (same (product_one (of_whole (poly_value p n k))
-        ∙ ap of_whole (linear_value n k p m q) ∙ ap (λ l. of_whole (form_value l n k)) (same_Ok m l f)))
+    by (Some m) q f = λ p. same_chain (tree_has t poly is (pos 1) p) (same (product_one (of_whole (poly_value poly p))
+        ∙ ap of_whole (linear_value p poly m q) ∙ ap (λ l. of_whole (form_value l p)) (same_Ok m l f)))
 
 pub argument_found : (t : Tree) (l : LinearForm) → (argument_sought t).outcome ≡ Ok l → HasForm t l
 argument_found t l e =
@@ -48,46 +49,48 @@ argument_found t l e =
     form_found 1 t g.value l (sought_is t g.value g.first) g.second
 
 -- f to the power w * (s * n + t * k + c), in three parts
-three_powers : (f : Fraction) → IsNonzero f → (l : LinearForm) (w n k : ℤ)
-    → fraction_product (fraction_product (whole_power f (w *ℤ l.offset)) (whole_power f (w *ℤ l.k_slope *ℤ k))) (whole_power f (w *ℤ l.n_slope *ℤ n))
-    ≅ whole_power f (w *ℤ form_value l n k)
-three_powers f h l w n k =
-    same_chain (same_products (same_turned (power_at_sum f h (w *ℤ l.offset) (w *ℤ l.k_slope *ℤ k)))
-    (same_itself (whole_power f (w *ℤ l.n_slope *ℤ n))))
-    (same_chain (same_turned (power_at_sum f h (w *ℤ l.offset +ℤ w *ℤ l.k_slope *ℤ k) (w *ℤ l.n_slope *ℤ n)))
-    (same (ap (whole_power f) (joined w l.n_slope l.k_slope l.offset n k))))
+three_powers : (f : Fraction) → IsNonzero f → (l : LinearForm) (w : ℤ) (p : Point)
+    → fraction_product (fraction_product (whole_power f (w *ℤ l.offset)) (whole_power f (w *ℤ l.k_slope *ℤ p.k))) (whole_power f (w *ℤ l.n_slope *ℤ p.n))
+    ≅ whole_power f (w *ℤ form_value l p)
+three_powers f h l w p =
+    same_chain (same_products (same_turned (power_at_sum f h (w *ℤ l.offset) (w *ℤ l.k_slope *ℤ p.k)))
+    (same_itself (whole_power f (w *ℤ l.n_slope *ℤ p.n))))
+    (same_chain (same_turned (power_at_sum f h (w *ℤ l.offset +ℤ w *ℤ l.k_slope *ℤ p.k) (w *ℤ l.n_slope *ℤ p.n)))
+    (same (ap (whole_power f) (joined w l.n_slope l.k_slope l.offset p.n p.k))))
   where
     joined : (w s t c n k : ℤ) → w *ℤ c +ℤ w *ℤ t *ℤ k +ℤ w *ℤ s *ℤ n ≡ w *ℤ (s *ℤ n +ℤ t *ℤ k +ℤ c)
     joined w s t c n k = ring_z (w ∷ s ∷ t ∷ c ∷ n ∷ k ∷ []) (search reading_z depth 40 fits 20000) refl
 
+
 pub exponential_row : (at : ℕ) (f : Fraction) (l : LinearForm) (w : ℤ) (s s' : ProperTerm) → HasFractions s → IsNonzero f
-    → (times_exponential at f l w s).outcome ≡ Ok s' → IsTimes s s' (λ n k. whole_power f (w *ℤ form_value l n k))
+    → (times_exponential at f l w s).outcome ≡ Ok s' → IsTimes s s' (λ p. whole_power f (w *ℤ form_value l p))
 exponential_row at f l w s s' h nonzero e =
     let a : ProperTerm = with_scale (lowest_terms (fraction_product s.scale (raised_fraction f (w *ℤ l.offset)))) s in
     let b : ProperTerm = with_k_base (lowest_terms (fraction_product s.k_base (raised_fraction f (w *ℤ l.k_slope)))) a in
     let c : ProperTerm = with_n_base (lowest_terms (fraction_product s.n_base (raised_fraction f (w *ℤ l.n_slope)))) b in
-    let p = scale_times s h f (w *ℤ l.offset) nonzero in
-    let q = k_base_times a p.fractions f (w *ℤ l.k_slope) nonzero in
+    let given = scale_times s h f (w *ℤ l.offset) nonzero in
+    let q = k_base_times a given.fractions f (w *ℤ l.k_slope) nonzero in
     let r = n_base_times b q.fractions f (w *ℤ l.n_slope) nonzero in
-    subst (λ t. IsTimes s t (λ n k. whole_power f (w *ℤ form_value l n k))) (same_Ok c s' e)
-    (times_same s c (λ n k. fraction_product (fraction_product (whole_power f (w *ℤ l.offset)) (whole_power f (w *ℤ l.k_slope *ℤ k)))
-    (whole_power f (w *ℤ l.n_slope *ℤ n)))
-    (λ n k. whole_power f (w *ℤ form_value l n k))
-    (times_both s b c (λ n k. fraction_product (whole_power f (w *ℤ l.offset)) (whole_power f (w *ℤ l.k_slope *ℤ k)))
-    (λ n k. whole_power f (w *ℤ l.n_slope *ℤ n))
-    (times_both s a b (λ n k. whole_power f (w *ℤ l.offset)) (λ n k. whole_power f (w *ℤ l.k_slope *ℤ k)) p q) r)
+    subst (λ t. IsTimes s t (λ p. whole_power f (w *ℤ form_value l p))) (same_Ok c s' e)
+    (times_same s c (λ p. fraction_product (fraction_product (whole_power f (w *ℤ l.offset)) (whole_power f (w *ℤ l.k_slope *ℤ p.k)))
+    (whole_power f (w *ℤ l.n_slope *ℤ p.n)))
+    (λ p. whole_power f (w *ℤ form_value l p))
+    (times_both s b c (λ p. fraction_product (whole_power f (w *ℤ l.offset)) (whole_power f (w *ℤ l.k_slope *ℤ p.k)))
+    (λ p. whole_power f (w *ℤ l.n_slope *ℤ p.n))
+    (times_both s a b (λ p. whole_power f (w *ℤ l.offset)) (λ p. whole_power f (w *ℤ l.k_slope *ℤ p.k)) given q) r)
     (three_powers f nonzero l w))
 
 -- a difference of forms
 difference_value : (upper lower : Tree) (l m : LinearForm) → HasForm upper l → HasForm lower m
-    → (n k : ℤ) → fraction_difference (tree_value upper (pos 1) n k) (tree_value lower (pos 1) n k) ≅ of_whole (form_value (form_difference l m) n k)
-difference_value upper lower l m p q n k =
-    same_chain (same_sums (p n k) (same_negatives (q n k)))
-    (same (difference_of_wholes (form_value l n k) (form_value m n k)
-    ∙ ap of_whole (parts l.n_slope l.k_slope l.offset m.n_slope m.k_slope m.offset n k)))
+    → (p : Point) → fraction_difference (tree_value upper (pos 1) p) (tree_value lower (pos 1) p) ≅ of_whole (form_value (form_difference l m) p)
+difference_value upper lower l m e q p =
+    same_chain (same_sums (e p) (same_negatives (q p)))
+    (same (difference_of_wholes (form_value l p) (form_value m p)
+    ∙ ap of_whole (parts l.n_slope l.k_slope l.offset m.n_slope m.k_slope m.offset p.n p.k)))
   where
     parts : (a b c d e f n k : ℤ) → (a *ℤ n +ℤ b *ℤ k +ℤ c) -ℤ (d *ℤ n +ℤ e *ℤ k +ℤ f) ≡ (a -ℤ d) *ℤ n +ℤ (b -ℤ e) *ℤ k +ℤ (c -ℤ f)
     parts a b c d e f n k = ring_z (a ∷ b ∷ c ∷ d ∷ e ∷ f ∷ n ∷ k ∷ []) (search reading_z depth 40 fits 20000) refl
+
 
 -- steps whose value isn't used
 pub skipped : {A B : Type 0} (s : Steps A) (t : Steps B) (y : B) → (s then (λ x. t)).outcome ≡ Ok y → t.outcome ≡ Ok y
@@ -109,22 +112,22 @@ arguments_tested at upper lower l m w f =
     not_negative (place_of upper) l then (λ l1. not_negative (place_of lower) m then (λ m1. difference_made at l m w f))
 
 three_rows : (l m d : LinearForm) (w : ℤ) (s s' : ProperTerm) → HasFractions s → (three_factorials l m d w s).outcome ≡ Ok s'
-    → IsTimes s s' (λ n k. fraction_product (factorial_power w (form_value l n k))
-    (fraction_product (factorial_power (neg_ℤ w) (form_value m n k)) (factorial_power (neg_ℤ w) (form_value d n k))))
+    → IsTimes s s' (λ p. fraction_product (factorial_power w (form_value l p))
+    (fraction_product (factorial_power (neg_ℤ w) (form_value m p)) (factorial_power (neg_ℤ w) (form_value d p))))
 three_rows l m d w s s' h e =
     let g = then_gave (with_factorial l w s) (λ g. with_factorial m (neg_ℤ w) g then (λ h. with_factorial d (neg_ℤ w) h)) s' e in
     let i = then_gave (with_factorial m (neg_ℤ w) g.value) (λ h. with_factorial d (neg_ℤ w) h) s' g.second in
-    let p = factorial_row l w s g.value h g.first in
-    let q = factorial_row m (neg_ℤ w) g.value i.value p.fractions i.first in
+    let given = factorial_row l w s g.value h g.first in
+    let q = factorial_row m (neg_ℤ w) g.value i.value given.fractions i.first in
     let r = factorial_row d (neg_ℤ w) i.value s' q.fractions i.second in
-    times_both s g.value s' (λ n k. factorial_power w (form_value l n k))
-    (λ n k. fraction_product (factorial_power (neg_ℤ w) (form_value m n k)) (factorial_power (neg_ℤ w) (form_value d n k))) p
-    (times_both g.value i.value s' (λ n k. factorial_power (neg_ℤ w) (form_value m n k)) (λ n k. factorial_power (neg_ℤ w) (form_value d n k)) q r)
+    times_both s g.value s' (λ p. factorial_power w (form_value l p))
+    (λ p. fraction_product (factorial_power (neg_ℤ w) (form_value m p)) (factorial_power (neg_ℤ w) (form_value d p))) given
+    (times_both g.value i.value s' (λ p. factorial_power (neg_ℤ w) (form_value m p)) (λ p. factorial_power (neg_ℤ w) (form_value d p)) q r)
 
 pub binomial_row : (at : ℕ) (upper lower : Tree) (w : ℤ) (s s' : ProperTerm) → HasFractions s → (times_binomial at upper lower w s).outcome ≡ Ok s'
-    → IsTimes s s' (λ n k. fraction_product (at_whole (factorial_power w) (tree_value upper (pos 1) n k))
-    (fraction_product (at_whole (factorial_power (neg_ℤ w)) (tree_value lower (pos 1) n k))
-    (at_whole (factorial_power (neg_ℤ w)) (fraction_difference (tree_value upper (pos 1) n k) (tree_value lower (pos 1) n k)))))
+    → IsTimes s s' (λ p. fraction_product (at_whole (factorial_power w) (tree_value upper (pos 1) p))
+    (fraction_product (at_whole (factorial_power (neg_ℤ w)) (tree_value lower (pos 1) p))
+    (at_whole (factorial_power (neg_ℤ w)) (fraction_difference (tree_value upper (pos 1) p) (tree_value lower (pos 1) p)))))
 binomial_row at upper lower w s s' h e =
     let a = then_gave (argument_sought upper) (λ l. argument_sought lower then (λ m. arguments_tested at upper lower l m w s)) s' e in
     let l = a.value in
@@ -137,16 +140,16 @@ binomial_row at upper lower w s s' h e =
     (λ m2. limited_form (form_difference l m) then (λ d2. three_factorials l m (form_difference l m) w s))) s' g in
     let j = skipped (limited_form m) (limited_form (form_difference l m) then (λ d2. three_factorials l m (form_difference l m) w s)) s' i in
     let o = skipped (limited_form (form_difference l m)) (three_factorials l m (form_difference l m) w s) s' j in
-    let p = argument_found upper l a.first in
+    let given = argument_found upper l a.first in
     let q = argument_found lower m b.first in
     times_same s s'
-    (λ n k. fraction_product (factorial_power w (form_value l n k))
-    (fraction_product (factorial_power (neg_ℤ w) (form_value m n k)) (factorial_power (neg_ℤ w) (form_value (form_difference l m) n k))))
-    (λ n k. fraction_product (at_whole (factorial_power w) (tree_value upper (pos 1) n k))
-    (fraction_product (at_whole (factorial_power (neg_ℤ w)) (tree_value lower (pos 1) n k))
-    (at_whole (factorial_power (neg_ℤ w)) (fraction_difference (tree_value upper (pos 1) n k) (tree_value lower (pos 1) n k)))))
+    (λ p. fraction_product (factorial_power w (form_value l p))
+    (fraction_product (factorial_power (neg_ℤ w) (form_value m p)) (factorial_power (neg_ℤ w) (form_value (form_difference l m) p))))
+    (λ p. fraction_product (at_whole (factorial_power w) (tree_value upper (pos 1) p))
+    (fraction_product (at_whole (factorial_power (neg_ℤ w)) (tree_value lower (pos 1) p))
+    (at_whole (factorial_power (neg_ℤ w)) (fraction_difference (tree_value upper (pos 1) p) (tree_value lower (pos 1) p)))))
     (three_rows l m (form_difference l m) w s s' h o)
-    (λ n k. same_products (same (sym (at_whole_value (factorial_power w) (tree_value upper (pos 1) n k) (form_value l n k) (p n k))))
-    (same_products (same (sym (at_whole_value (factorial_power (neg_ℤ w)) (tree_value lower (pos 1) n k) (form_value m n k) (q n k))))
-    (same (sym (at_whole_value (factorial_power (neg_ℤ w)) (fraction_difference (tree_value upper (pos 1) n k) (tree_value lower (pos 1) n k))
-    (form_value (form_difference l m) n k) (difference_value upper lower l m p q n k))))))
+    (λ p. same_products (same (sym (at_whole_value (factorial_power w) (tree_value upper (pos 1) p) (form_value l p) (given p))))
+    (same_products (same (sym (at_whole_value (factorial_power (neg_ℤ w)) (tree_value lower (pos 1) p) (form_value m p) (q p))))
+    (same (sym (at_whole_value (factorial_power (neg_ℤ w)) (fraction_difference (tree_value upper (pos 1) p) (tree_value lower (pos 1) p))
+    (form_value (form_difference l m) p) (difference_value upper lower l m given q p))))))

@@ -4,6 +4,7 @@ use Rattle.std.proofs.lemmas.Int.{ints}
 use Rattle.std.specs.Prelude.{ℤ, pos, negsuc, ◌*ℤ◌, ◌≤ℤ◌}
 use Rattle.std.specs.List.{AllByRecursion}
 use Rattle.ring_solver.proofs.Read.{ring_z, reading_z}
+use Rattle.hypergeometric.specs.Point.{Point}
 use Rattle.hypergeometric.specs.Fraction.{Fraction, IsDefined, of_whole, fraction_product, fraction_inverse, natural_power, whole_power}
 use Rattle.hypergeometric.specs.LinearForm.{LinearForm, Factor, form_value, factorial, factorial_value, inverse_factorial_value, product_over}
 use Rattle.hypergeometric.specs.FormOrder.{NoFormTwice}
@@ -19,7 +20,7 @@ use Rattle.term_classes.proofs.SharedForms.{AllSome, all_more, own_powers, both_
 use Rattle.term_classes.proofs.SharedProducts.{product_parts}
 use Rattle.term_classes.proofs.DefinedValues.{value_defined, none_to_all, all_to_none, parts_natural}
 
-module _ (n k : ℤ) where
+module _ (p : Point) where
   -- m! times 1/m!
   factorial_positive : (m : ℕ) → 0 < factorial m
   factorial_positive zero = omega arith
@@ -44,16 +45,16 @@ module _ (n k : ℤ) where
   one_power f (suc m) e = same_chain (same_products e (one_power f m e)) (same (one_product (of_whole (pos 1))))
 
   -- factorials above and below cancel where no argument is negative
-  lists_cancel : (xs : List Factor) → NoneNegative xs n k
-      → fraction_product (product_over factorial_value xs n k) (product_over inverse_factorial_value xs n k) ≅ of_whole (pos 1)
+  lists_cancel : (xs : List Factor) → NoneNegative xs p
+      → fraction_product (product_over factorial_value xs p) (product_over inverse_factorial_value xs p) ≅ of_whole (pos 1)
   lists_cancel [] h = same (one_product (of_whole (pos 1)))
   lists_cancel (x ∷ xs) h =
-      let u : Fraction = factorial_value (form_value x.form n k) in
-      let d : Fraction = inverse_factorial_value (form_value x.form n k) in
-      same_chain (same (products_exchange (natural_power u x.power) (product_over factorial_value xs n k) (natural_power d x.power)
-      (product_over inverse_factorial_value xs n k)))
+      let u : Fraction = factorial_value (form_value x.form p) in
+      let d : Fraction = inverse_factorial_value (form_value x.form p) in
+      same_chain (same (products_exchange (natural_power u x.power) (product_over factorial_value xs p) (natural_power d x.power)
+      (product_over inverse_factorial_value xs p)))
       (same_chain (same_products (same_chain (same (sym (power_of_product u d x.power)))
-      (one_power (fraction_product u d) x.power (factorial_cancels (form_value x.form n k) h.0)))
+      (one_power (fraction_product u d) x.power (factorial_cancels (form_value x.form p) h.0)))
       (lists_cancel xs h.1)) (same (one_product (of_whole (pos 1)))))
 
   regrouped : (u b d c o : Fraction) → fraction_product (fraction_product u b) (fraction_product (fraction_product d c) o)
@@ -81,50 +82,50 @@ module _ (s : ProperTerm) (h : CanCancel s) where
   abbrev shared : List Factor
   shared = in_both s.up s.down
 
-  module _ (n k : ℤ) where
-    cancelled_defined : IsDefinedAt (cancelled s) n k → IsDefined (proper_value s n k)
-    cancelled_defined d = proper_value_defined (with_lists s.up s.down s.over [] s) n k
+  module _ (p : Point) where
+    cancelled_defined : IsDefinedAt (cancelled s) p → IsDefined (proper_value s p)
+    cancelled_defined d = proper_value_defined (with_lists s.up s.down s.over [] s) p
         (record { scale = h.fractions.scale; n_base = h.fractions.n_base; k_base = h.fractions.k_base })
-        (record { up = parts_natural n k s.up shared h.up_some d.up d.guard; guard = tt; over = d.over })
+        (record { up = parts_natural p s.up shared h.up_some d.up d.guard; guard = tt; over = d.over })
 
-    defined_cancelled : IsDefined (proper_value s n k) → IsDefinedAt (cancelled s) n k
+    defined_cancelled : IsDefined (proper_value s p) → IsDefinedAt (cancelled s) p
     defined_cancelled d =
-        let v = value_defined n k s h.up_some h.over_some d in
-        let all = none_to_all n k s.up v.0 in
+        let v = value_defined p s h.up_some h.over_some d in
+        let all = none_to_all p s.up v.0 in
         record {
-          up = all_to_none n k (without s.up shared) (without_forms (λ f. pos 0 ≤ℤ form_value f n k) s.up shared all);
-          guard = all_to_none n k shared (both_forms (λ f. pos 0 ≤ℤ form_value f n k) s.up s.down all);
+          up = all_to_none p (without s.up shared) (without_forms (λ f. pos 0 ≤ℤ form_value f p) s.up shared all);
+          guard = all_to_none p shared (both_forms (λ f. pos 0 ≤ℤ form_value f p) s.up s.down all);
           over = v.1;
         }
 
-    lists_same : IsDefinedAt (cancelled s) n k
-        → fraction_product (product_over factorial_value s.up n k)
-        (fraction_product (product_over inverse_factorial_value s.down n k) (product_over (λ z. fraction_inverse (of_whole z)) s.over n k))
-        ≅ fraction_product (product_over factorial_value (without s.up shared) n k)
-        (fraction_product (product_over inverse_factorial_value (without s.down shared) n k)
-        (product_over (λ z. fraction_inverse (of_whole z)) s.over n k))
+    lists_same : IsDefinedAt (cancelled s) p
+        → fraction_product (product_over factorial_value s.up p)
+        (fraction_product (product_over inverse_factorial_value s.down p) (product_over (λ z. fraction_inverse (of_whole z)) s.over p))
+        ≅ fraction_product (product_over factorial_value (without s.up shared) p)
+        (fraction_product (product_over inverse_factorial_value (without s.down shared) p)
+        (product_over (λ z. fraction_inverse (of_whole z)) s.over p))
     lists_same d =
         let distinct : NoFormTwice shared = both_distinct s.up s.down h.up in
-        let up_parts = product_parts factorial_value n k s.up shared h.up distinct (both_in_first s.up s.down h.up_some)
+        let up_parts = product_parts factorial_value p s.up shared h.up distinct (both_in_first s.up s.down h.up_some)
         (at_most_own s.up shared h.up (λ f. both_below_first f s.up s.down h.up)) in
-        let down_parts = product_parts inverse_factorial_value n k s.down shared h.down distinct (both_in_second s.up s.down)
+        let down_parts = product_parts inverse_factorial_value p s.down shared h.down distinct (both_in_second s.up s.down)
         (at_most_own s.down shared h.down (λ f. both_below_second f s.up s.down)) in
-        let over_value : Fraction = product_over (λ z. fraction_inverse (of_whole z)) s.over n k in
-        let u : Fraction = product_over factorial_value (without s.up shared) n k in
-        let v : Fraction = product_over inverse_factorial_value (without s.down shared) n k in
+        let over_value : Fraction = product_over (λ z. fraction_inverse (of_whole z)) s.over p in
+        let u : Fraction = product_over factorial_value (without s.up shared) p in
+        let v : Fraction = product_over inverse_factorial_value (without s.down shared) p in
         same_chain (same (λ i. fraction_product (up_parts i) (fraction_product (down_parts i) over_value)))
-        (same_chain (same (regrouped n k u (product_over factorial_value shared n k) v (product_over inverse_factorial_value shared n k) over_value))
-        (same_chain (same_products (same_itself (fraction_product u (fraction_product v over_value))) (lists_cancel n k shared d.guard))
+        (same_chain (same (regrouped p u (product_over factorial_value shared p) v (product_over inverse_factorial_value shared p) over_value))
+        (same_chain (same_products (same_itself (fraction_product u (fraction_product v over_value))) (lists_cancel p shared d.guard))
         (same (product_one (fraction_product u (fraction_product v over_value))))))
 
-    value_same : IsDefinedAt (cancelled s) n k → proper_value s n k ≅ proper_value (cancelled s) n k
-    value_same d = same_products (same_itself s.scale) (same_products (same_itself (of_whole (poly_value s.poly n k)))
-        (same_products (same_itself (whole_power s.n_base n)) (same_products (same_itself (whole_power s.k_base k)) (lists_same d))))
+    value_same : IsDefinedAt (cancelled s) p → proper_value s p ≅ proper_value (cancelled s) p
+    value_same d = same_products (same_itself s.scale) (same_products (same_itself (of_whole (poly_value s.poly p)))
+        (same_products (same_itself (whole_power s.n_base p.n)) (same_products (same_itself (whole_power s.k_base p.k)) (lists_same d))))
 
   -- the cancelled term has the value of the term
   pub cancelled_has : HasValue (cancelled s) (proper_value s)
   cancelled_has = record {
-    defined = λ n k. (cancelled_defined n k, defined_cancelled n k);
-    equal = λ n k d. same_equal (same_turned (value_same n k d))
-        (λ z. cancelled_defined n k d ((value_same n k d).zero_left z));
+    defined = λ p. (cancelled_defined p, defined_cancelled p);
+    equal = λ p d. same_equal (same_turned (value_same p d))
+        (λ z. cancelled_defined p d ((value_same p d).zero_left z));
   }

@@ -2,6 +2,7 @@
 use Rattle.std.proofs.Common.{◌≡◌, ap, ◌∙◌, [], ◌∷◌, arith, subst}
 use Rattle.std.specs.Prelude.{ℤ, pos, negsuc, ◌*ℤ◌, Ok}
 use Rattle.poly_laws.proofs.Keeps.{value_at_keeps}
+use Rattle.hypergeometric.specs.Point.{Point, values}
 use Rattle.hypergeometric.specs.Fraction.{Fraction, of_whole, fraction_product}
 use Rattle.hypergeometric.specs.ProperTerm.{ProperTerm, proper_value, HasFractions}
 use Rattle.hypergeometric.specs.Tree.{Tree}
@@ -28,8 +29,8 @@ unit_fractions = record {
   k_base = record { top = one_not_zero; bottom = one_not_zero };
 }
 
-unit_value : (n k : ℤ) → proper_value unit_term n k ≡ of_whole (pos 1)
-unit_value n k = plain_value (pos 1) in_n_and_k.unit n k ∙ ap (λ z. of_whole (pos 1 *ℤ z)) ((value_at_keeps (k ∷ n ∷ [])).unit)
+unit_value : (p : Point) → proper_value unit_term p ≡ of_whole (pos 1)
+unit_value p = plain_value (pos 1) in_n_and_k.unit p ∙ ap (λ z. of_whole (pos 1 *ℤ z)) ((value_at_keeps (values p)).unit)
 
 pub unit_lists : HasLists unit_term
 unit_lists = record {
@@ -40,11 +41,11 @@ unit_lists = record {
 }
 
 -- a term whose value is multiplied from 1
-from_unit : (s : ProperTerm) (v : ℤ → ℤ → Fraction) → IsTimes unit_term s v → (n k : ℤ) → proper_value s n k ≅ v n k
-from_unit s v h n k = same_chain (h.value n k) (same (ap (λ f. fraction_product f (v n k)) (unit_value n k) ∙ one_product (v n k)))
+from_unit : (s : ProperTerm) (v : Point → Fraction) → IsTimes unit_term s v → (p : Point) → proper_value s p ≅ v p
+from_unit s v h p = same_chain (h.value p) (same (ap (λ f. fraction_product f (v p)) (unit_value p) ∙ one_product (v p)))
 
 -- the cancelled term has the value that was gathered
-cancelled_value : (s : ProperTerm) (v : ℤ → ℤ → Fraction) → IsTimes unit_term s v → HasLists s → HasValue (cancelled s) v
+cancelled_value : (s : ProperTerm) (v : Point → Fraction) → IsTimes unit_term s v → HasLists s → HasValue (cancelled s) v
 cancelled_value s v h lists =
     let c = cancelled_has s (record {
       fractions = h.fractions;
@@ -54,12 +55,12 @@ cancelled_value s v h lists =
       over_some = list_some s.over lists.over;
     }) in
     record {
-      defined = λ n k. (
-        λ d. (same_defined (from_unit s v h n k)).0 ((c.defined n k).0 d),
-        λ d. (c.defined n k).1
-            ((same_defined (from_unit s v h n k)).1 d),
+      defined = λ p. (
+        λ d. (same_defined (from_unit s v h p)).0 ((c.defined p).0 d),
+        λ d. (c.defined p).1
+            ((same_defined (from_unit s v h p)).1 d),
       );
-      equal = λ n k d. equal_chain (c.equal n k d) (same_equal (from_unit s v h n k) ((c.defined n k).0 d));
+      equal = λ p d. equal_chain (c.equal p d) (same_equal (from_unit s v h p) ((c.defined p).0 d));
     }
 
 pub class_has_the_value : (t : Tree) (f : ProperTerm) → (class_of t).outcome ≡ Ok f → HasValue f (term_value t)

@@ -9,6 +9,7 @@ use Rattle.ring_laws.specs.Meaning.{Meaning, items}
 use Rattle.ring_laws.specs.Wholes.{number_of}
 use Rattle.ring_laws.specs.WholeDomain.{abs_nought}
 use Rattle.poly_laws.specs.Values.{value_at, horner}
+use Rattle.hypergeometric.specs.Point.{Point, point, values, values_in_n}
 use Rattle.hypergeometric.specs.Fraction.{Fraction, IsDefined, of_whole, fraction_negative, fraction_product, whole_power}
 use Rattle.hypergeometric.specs.ProperTerm.{poly_value, IsNonzero}
 use Rattle.hypergeometric.specs.Tree.{Tree}
@@ -28,27 +29,27 @@ use Rattle.term_classes.proofs.StepLaws.{same_Ok}
 use Rattle.term_classes.proofs.PolynomialParts.{power_value}
 
 -- a polynomial that is a constant has its value at each point
-module _ (n k : ℤ) where
+module _ (p : Point) where
   and_nothing : (v x : ℤ) → x +ℤ v *ℤ pos 0 ≡ x
   and_nothing v x = ring_z (v ∷ x ∷ []) (search reading_z depth 40 fits 20000) refl
 
-  pub in_n_value : (xs : List Meaning) (z : ℤ) → constant_in_n xs ≡ Some z → horner number_of n xs ≡ z
+  pub in_n_value : (xs : List Meaning) (z : ℤ) → constant_in_n xs ≡ Some z → horner number_of p.n xs ≡ z
   in_n_value [] z e = same_Some (pos 0) z e
-  in_n_value (c ∷ []) z e = and_nothing n (number_of c) ∙ same_Some (number_of c) z e
+  in_n_value (c ∷ []) z e = and_nothing p.n (number_of c) ∙ same_Some (number_of c) z e
   in_n_value (c ∷ d ∷ cs) z e = absurd (none-some z e)
 
-  in_k_value : (xs : List Meaning) (z : ℤ) → constant_in_k xs ≡ Some z → horner (value_at (n ∷ [])) k xs ≡ z
+  in_k_value : (xs : List Meaning) (z : ℤ) → constant_in_k xs ≡ Some z → horner (value_at (values_in_n p)) p.k xs ≡ z
   in_k_value [] z e = same_Some (pos 0) z e
-  in_k_value (c ∷ []) z e = and_nothing k (horner number_of n (items c)) ∙ in_n_value (items c) z e
+  in_k_value (c ∷ []) z e = and_nothing p.k (horner number_of p.n (items c)) ∙ in_n_value (items c) z e
   in_k_value (c ∷ d ∷ cs) z e = absurd (none-some z e)
 
-  pub constant_value : (p : Meaning) (z : ℤ) → constant_in_k (items p) ≡ Some z → poly_value p n k ≡ z
-  constant_value p z e = in_k_value (items p) z e
+  pub constant_value : (poly : Meaning) (z : ℤ) → constant_in_k (items poly) ≡ Some z → poly_value poly p ≡ z
+  constant_value poly z e = in_k_value (items poly) z e
 
 -- a tree, its node, or the product of its parts to each power is the fraction to that power
-pub record IsConstant (f : Fraction) (value : ℤ → ℤ → ℤ → Fraction) : Type 0 where
+pub record IsConstant (f : Fraction) (value : ℤ → Point → Fraction) : Type 0 where
   pub defined : IsDefined f
-  pub power : (w n k : ℤ) → value w n k ≅ whole_power f w
+  pub power : (w : ℤ) (p : Point) → value w p ≅ whole_power f w
 
 negative_product : (f : Fraction) → fraction_product (of_whole (negsuc 0)) f ≡ fraction_negative f
 negative_product f = fraction_same (minus f.top) (once f.bottom)
@@ -61,12 +62,12 @@ negative_product f = fraction_same (minus f.top) (once f.bottom)
 
 pub negated_constant : (t : Tree) (g : Option Fraction) (f : Fraction) → negative_of g ≡ Some f
     → ((h : Fraction) → g ≡ Some h → IsConstant h (tree_value t))
-    → IsConstant f (λ w n k. fraction_product (whole_power (of_whole (negsuc 0)) w) (tree_value t w n k))
+    → IsConstant f (λ w p. fraction_product (whole_power (of_whole (negsuc 0)) w) (tree_value t w p))
 negated_constant t None f e h = absurd (none-some f e)
-negated_constant t (Some g) f e h = subst (λ f. IsConstant f (λ w n k. fraction_product (whole_power (of_whole (negsuc 0)) w) (tree_value t w n k)))
+negated_constant t (Some g) f e h = subst (λ f. IsConstant f (λ w p. fraction_product (whole_power (of_whole (negsuc 0)) w) (tree_value t w p)))
     (same_Some (fraction_negative g) f e) (record {
       defined = (h g refl).defined;
-      power = λ w n k. same_chain (same_products (same_itself (whole_power (of_whole (negsuc 0)) w)) ((h g refl).power w n k))
+      power = λ w p. same_chain (same_products (same_itself (whole_power (of_whole (negsuc 0)) w)) ((h g refl).power w p))
           (same (sym (whole_power_of_product (of_whole (negsuc 0)) g w) ∙ ap (λ x. whole_power x w) (negative_product g)));
     })
 
@@ -80,26 +81,26 @@ not_zero z e h = true≢false (sym (ap is_zero h) ∙ e)
 
 -- a constant to a constant power
 module _ (base : Tree) (f : Fraction) (h : IsConstant f (tree_value base)) where
-  constant_power : (c w n k : ℤ) (other : Fraction) → ((w : ℤ) → whole_power (whole_power f c) w ≅ whole_power f (c *ℤ w))
-      → power_value base (Some c) w n k other ≅ whole_power (whole_power f c) w
-  constant_power c w n k other twice =
-      cond_both (nat_eq (unsigned_abs c) 0) (of_whole (pos 1)) (tree_value base (w *ℤ c) n k) (λ v. v ≅ whole_power (whole_power f c) w)
+  constant_power : (c w : ℤ) (p : Point) (other : Fraction) → ((w : ℤ) → whole_power (whole_power f c) w ≅ whole_power f (c *ℤ w))
+      → power_value base (Some c) w p other ≅ whole_power (whole_power f c) w
+  constant_power c w p other twice =
+      cond_both (nat_eq (unsigned_abs c) 0) (of_whole (pos 1)) (tree_value base (w *ℤ c) p) (λ v. v ≅ whole_power (whole_power f c) w)
       (λ e. same (sym (whole_power_of_one w) ∙ ap (λ c. whole_power (whole_power f c) w) (sym (abs_nought c (eqb-true (unsigned_abs c) 0 e)))))
-      (λ e. same_chain (h.power (w *ℤ c) n k) (same_chain (same (ap (whole_power f) (*ℤ_comm w c))) (same_turned (twice w))))
+      (λ e. same_chain (h.power (w *ℤ c) p) (same_chain (same (ap (whole_power f) (*ℤ_comm w c))) (same_turned (twice w))))
 
-  lowered : (c : ℤ) (r : Fraction) (other : ℤ → ℤ → ℤ → Fraction) → IsDefined r → r ≅ whole_power f c
+  lowered : (c : ℤ) (r : Fraction) (other : ℤ → Point → Fraction) → IsDefined r → r ≅ whole_power f c
       → ((w : ℤ) → whole_power (whole_power f c) w ≅ whole_power f (c *ℤ w))
-      → IsConstant (lowest_terms r) (λ w n k. power_value base (Some c) w n k (other w n k))
+      → IsConstant (lowest_terms r) (λ w p. power_value base (Some c) w p (other w p))
   lowered c r other d e twice = record {
     defined = λ z. d (lowest_bottom_zero r z);
-    power = λ w n k. same_chain (constant_power c w n k (other w n k) twice)
+    power = λ w p. same_chain (constant_power c w p (other w p) twice)
         (same_whole_powers w (same_chain (same_turned e) (same_turned (lowest_same r d))));
   }
 
-  pub power_made_has : (at : ℕ) (c : ℤ) (g : Fraction) (other : ℤ → ℤ → ℤ → Fraction) → (power_made at c f).outcome ≡ Ok (Some g)
-      → IsConstant g (λ w n k. power_value base (Some c) w n k (other w n k))
+  pub power_made_has : (at : ℕ) (c : ℤ) (g : Fraction) (other : ℤ → Point → Fraction) → (power_made at c f).outcome ≡ Ok (Some g)
+      → IsConstant g (λ w p. power_value base (Some c) w p (other w p))
   power_made_has at (pos c) g other e =
-      subst (λ g. IsConstant g (λ w n k. power_value base (Some (pos c)) w n k (other w n k))) (same_Some (lowest_terms (raised_fraction f (pos c))) g
+      subst (λ g. IsConstant g (λ w p. power_value base (Some (pos c)) w p (other w p))) (same_Some (lowest_terms (raised_fraction f (pos c))) g
       (same_Ok (Some (lowest_terms (raised_fraction f (pos c)))) (Some g) e))
       (lowered (pos c) (raised_fraction f (pos c)) other (subst IsDefined (sym (raised_natural f c)) (natural_power_defined f c h.defined))
       (same (raised_natural f c))
@@ -109,6 +110,6 @@ module _ (base : Tree) (f : Fraction) (h : IsConstant f (tree_value base)) where
       (size_of_bottom (raised_fraction f (negsuc c)))) at
       (lowest_terms (raised_fraction f (negsuc c))) g e in
       let nonzero : IsNonzero f = record { top = not_zero f.top u.0; bottom = h.defined } in
-      subst (λ g. IsConstant g (λ w n k. power_value base (Some (negsuc c)) w n k (other w n k))) u.1
+      subst (λ g. IsConstant g (λ w p. power_value base (Some (negsuc c)) w p (other w p))) u.1
       (lowered (negsuc c) (raised_fraction f (negsuc c)) other (raised_nonzero f (negsuc c) nonzero).bottom (raised_same f (negsuc c) nonzero)
       (λ w. power_then_power f (negsuc c) w nonzero.top))

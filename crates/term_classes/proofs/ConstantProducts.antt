@@ -3,6 +3,7 @@ use Rattle.std.proofs.Common.{◌≡◌, ℕ, refl, ap, sym, ◌∙◌, List, �
 use Rattle.std.proofs.lemmas.Option.{same_Some, none-some}
 use Rattle.std.specs.Prelude.{ℤ, neg_ℤ, unsigned_abs, Ok}
 use Rattle.ring_laws.specs.Meaning.{Meaning, items}
+use Rattle.hypergeometric.specs.Point.{Point}
 use Rattle.hypergeometric.specs.Fraction.{Fraction, of_whole, fraction_product, whole_power}
 use Rattle.hypergeometric.specs.ProperTerm.{poly_value, IsNonzero}
 use Rattle.hypergeometric.specs.Tree.{Tree, Node, Parts, part}
@@ -28,13 +29,13 @@ FoundIn t = (f : Fraction) → (constant_sought t).outcome ≡ Ok (Some f) → I
 
 -- a factor, or one that is divided by and isn't 0
 factor_has : (turned : Bool) (f : Fraction) (t : Tree) → IsConstant f (tree_value t) → (turned && is_zero f.top) ≡ false
-    → IsConstant (factor_fraction (turned, f)) (λ w n k. tree_value t (part_power turned w) n k)
+    → IsConstant (factor_fraction (turned, f)) (λ w p. tree_value t (part_power turned w) p)
 factor_has false f t h e = h
 factor_has true f t h e =
     let nonzero : IsNonzero f = record { top = not_zero f.top e; bottom = h.defined } in
     record {
       defined = nonzero.top;
-      power = λ w n k. same_chain (h.power (neg_ℤ w) n k)
+      power = λ w p. same_chain (h.power (neg_ℤ w) p)
           (same_chain (negated_exponent f w nonzero.top) (same_whole_powers w (inverse_is_turned_over f nonzero)));
     }
 
@@ -46,11 +47,11 @@ abbrev FactorsFoundIn : Parts → Type 0
 FactorsFoundIn parts = (fs : List FractionFactor) → (constants_sought parts).outcome ≡ Ok (Some fs) → divides_by_zero fs ≡ false
     → IsConstant (product_of_fractions fs) (product_value parts)
 
-both_factors : (f g : Fraction) (u v : ℤ → ℤ → ℤ → Fraction) → IsConstant f u → IsConstant g v
-    → IsConstant (fraction_product f g) (λ w n k. fraction_product (u w n k) (v w n k))
-both_factors f g u v p q = record {
-  defined = product_not_zero f.bottom g.bottom p.defined q.defined;
-  power = λ w n k. same_chain (same_products (p.power w n k) (q.power w n k)) (same (sym (whole_power_of_product f g w)));
+both_factors : (f g : Fraction) (u v : ℤ → Point → Fraction) → IsConstant f u → IsConstant g v
+    → IsConstant (fraction_product f g) (λ w p. fraction_product (u w p) (v w p))
+both_factors f g u v e q = record {
+  defined = product_not_zero f.bottom g.bottom e.defined q.defined;
+  power = λ w p. same_chain (same_products (e.power w p) (q.power w p)) (same (sym (whole_power_of_product f g w)));
 }
 
 -- a factor in front of the others
@@ -62,7 +63,7 @@ in_front_has turned f t parts (Some gs) fs found e d h rest =
     let same_list : (turned, f) ∷ gs ≡ fs = same_Some ((turned, f) ∷ gs) fs e in
     let parted = neither (turned && is_zero f.top) (divides_by_zero gs) (ap divides_by_zero same_list ∙ d) in
     subst (λ fs. IsConstant (product_of_fractions fs) (product_value (part turned t parts))) same_list
-    (both_factors (factor_fraction (turned, f)) (product_of_fractions gs) (λ w n k. tree_value t (part_power turned w) n k) (product_value parts)
+    (both_factors (factor_fraction (turned, f)) (product_of_fractions gs) (λ w p. tree_value t (part_power turned w) p) (product_value parts)
     (factor_has turned f t h parted.0) (rest gs found parted.1))
 
 pub one_factor_has : (turned : Bool) (t : Tree) (a : Option Fraction) (parts : Parts) (fs : List FractionFactor)
@@ -82,19 +83,19 @@ product_found at parts (Some fs) f found e rest =
     let h = rest fs found u.0 in
     subst (λ f. IsConstant f (product_value parts)) u.1 (record {
       defined = λ z. h.defined (lowest_bottom_zero (product_of_fractions fs) z);
-      power = λ w n k. same_chain (h.power w n k) (same_whole_powers w (same_turned (lowest_same (product_of_fractions fs) h.defined)));
+      power = λ w p. same_chain (h.power w p) (same_whole_powers w (same_turned (lowest_same (product_of_fractions fs) h.defined)));
     })
 
-some_power : (at : ℕ) (base : Tree) (c : ℤ) (a : Option Fraction) (f : Fraction) (other : ℤ → ℤ → ℤ → Fraction)
+some_power : (at : ℕ) (base : Tree) (c : ℤ) (a : Option Fraction) (f : Fraction) (other : ℤ → Point → Fraction)
     → (constant_sought base).outcome ≡ Ok a → (where_some a (power_made at c)).outcome ≡ Ok (Some f) → FoundIn base
-    → IsConstant f (λ w n k. power_value base (Some c) w n k (other w n k))
+    → IsConstant f (λ w p. power_value base (Some c) w p (other w p))
 some_power at base c None f other found e h = absurd (none-some f (same_Ok None (Some f) e))
 some_power at base c (Some g) f other found e h = power_made_has base g (h g found) at c f other e
 
-pub power_found : (at : ℕ) (base : Tree) (c : Option ℤ) (f : Fraction) (other : ℤ → ℤ → ℤ → Fraction)
+pub power_found : (at : ℕ) (base : Tree) (c : Option ℤ) (f : Fraction) (other : ℤ → Point → Fraction)
     → (where_some c (λ c. within_limit exponent_limit 12 (unsigned_abs c) c then (λ c1.
     constant_sought base then (λ f. where_some f (power_made at c))))).outcome ≡ Ok (Some f) → FoundIn base
-    → IsConstant f (λ w n k. power_value base c w n k (other w n k))
+    → IsConstant f (λ w p. power_value base c w p (other w p))
 power_found at base None f other e h = absurd (none-some f (same_Ok None (Some f) e))
 power_found at base (Some c) f other e h =
     let g = then_gave (within_limit exponent_limit 12 (unsigned_abs c) c) (λ c1. constant_sought base then (λ f. where_some f (power_made at c)))
@@ -103,11 +104,11 @@ power_found at base (Some c) f other e h =
     some_power at base c b.value f other b.first b.second h
 
 whole_given : (q : Meaning) (c : Option ℤ) (f : Fraction) → whole_fraction c ≡ Some f → constant_in_k (items q) ≡ c
-    → (value : ℤ → ℤ → ℤ → Fraction) → ((w n k : ℤ) → value w n k ≅ whole_power (of_whole (poly_value q n k)) w) → IsConstant f value
+    → (value : ℤ → Point → Fraction) → ((w : ℤ) (p : Point) → value w p ≅ whole_power (of_whole (poly_value q p)) w) → IsConstant f value
 whole_given q None f e constant value h = absurd (none-some f e)
 whole_given q (Some z) f e constant value h = subst (λ f. IsConstant f value) (same_Some (of_whole z) f e) (record {
   defined = one_not_zero;
-  power = λ w n k. same_chain (h w n k) (same (ap (λ z. whole_power (of_whole z) w) (constant_value n k q z constant)));
+  power = λ w p. same_chain (h w p) (same (ap (λ z. whole_power (of_whole z) w) (constant_value p q z constant)));
 })
 
 -- by its polynomial, or else by its other cases

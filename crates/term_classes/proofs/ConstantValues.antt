@@ -3,6 +3,7 @@ use Rattle.std.proofs.Common.{◌≡◌, ℕ, ap, sym, List, [], true, false, Op
 use Rattle.std.proofs.lemmas.Option.{same_Some, none-some}
 use Rattle.std.specs.Prelude.{ℤ, pos, ◌*ℤ◌, unsigned_abs, Ok}
 use Rattle.ring_laws.specs.Meaning.{items}
+use Rattle.hypergeometric.specs.Point.{Point}
 use Rattle.hypergeometric.specs.Fraction.{Fraction, whole_power}
 use Rattle.hypergeometric.specs.Tree.{Tree, tree, Node, literal, variable_n, variable_k, sum_of, product_of, power_of, factorial_of, binomial_of, Parts, no_parts, part}
 use Rattle.hypergeometric.specs.TreePolynomial.{constant_in_k, constant_of}
@@ -22,7 +23,7 @@ use Rattle.term_classes.proofs.ConstantProducts.{one_factor_has, product_found, 
 mutual
   pub constant_has : (t : Tree) (f : Fraction) → (constant_sought t).outcome ≡ Ok (Some f) → IsConstant f (tree_value t)
   constant_has (tree at node) f e =
-      let g = then_gave (node_polynomial_sought at node) (λ p. elim p as (λ _. Steps (Option Fraction)) [
+      let g = then_gave (node_polynomial_sought at node) (λ given. elim given as (λ _. Steps (Option Fraction)) [
         | Some q ↦ gives (whole_fraction (constant_in_k (items q)))
         | None ↦ node_constant_sought at node
       ]) (Some f) e in
@@ -43,10 +44,10 @@ mutual
       let g = then_gave (constants_sought parts) (product_made at) (Some f) e in
       product_found at parts g.value f g.first g.second (constants_have parts)
   node_constant_has at (power_of base e) f h =
-      let g = then_gave (polynomial_sought e) (λ p. where_some (constant_of p) (λ c. within_limit exponent_limit 12 (unsigned_abs c) c then (λ c1.
+      let g = then_gave (polynomial_sought e) (λ given. where_some (constant_of given) (λ c. within_limit exponent_limit 12 (unsigned_abs c) c then (λ c1.
       constant_sought base then (λ f. where_some f (power_made at c))))) (Some f) h in
-      let other : ℤ → ℤ → ℤ → Fraction = λ w n k. at_whole (λ z. whole_power (tree_value base (pos 1) n k) (w *ℤ z)) (tree_value e (pos 1) n k) in
-      subst (λ c. IsConstant f (λ w n k. power_value base c w n k (other w n k))) (sym (ap constant_of (sought_is e g.value g.first)))
+      let other : ℤ → Point → Fraction = λ w p. at_whole (λ z. whole_power (tree_value base (pos 1) p) (w *ℤ z)) (tree_value e (pos 1) p) in
+      subst (λ c. IsConstant f (λ w p. power_value base c w p (other w p))) (sym (ap constant_of (sought_is e g.value g.first)))
       (power_found at base (constant_of g.value) f other g.second (constant_has base))
   node_constant_has at (factorial_of t) f e = absurd (none-some f (same_Ok None (Some f) e))
   node_constant_has at (binomial_of l m) f e = absurd (none-some f (same_Ok None (Some f) e))
@@ -55,7 +56,7 @@ mutual
       → IsConstant (product_of_fractions fs) (product_value parts)
   constants_have no_parts fs e d = subst (λ fs. IsConstant (product_of_fractions fs) (product_value no_parts))
       (same_Some [] fs (same_Ok (Some []) (Some fs) e))
-      (record { defined = one_not_zero; power = λ w n k. same (sym (whole_power_of_one w)) })
+      (record { defined = one_not_zero; power = λ w p. same (sym (whole_power_of_one w)) })
   constants_have (part turned t parts) fs e d =
       let g = then_gave (constant_sought t) (λ f. where_some f (λ f1. constants_sought parts then (λ fs. gives (in_front (turned, f1) fs))))
       (Some fs) e in

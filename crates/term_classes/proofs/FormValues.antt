@@ -9,6 +9,7 @@ use Rattle.ring_solver.proofs.Read.{ring_z, reading_z}
 use Rattle.ring_laws.specs.Meaning.{Meaning, items}
 use Rattle.ring_laws.specs.Wholes.{number_of}
 use Rattle.poly_laws.specs.Values.{value_at, horner}
+use Rattle.hypergeometric.specs.Point.{Point, values_in_n}
 use Rattle.hypergeometric.specs.LinearForm.{LinearForm, form_value}
 use Rattle.hypergeometric.specs.ProperTerm.{poly_value}
 use Rattle.hypergeometric.specs.TreePolynomial.{constant_in_n}
@@ -21,7 +22,7 @@ use Rattle.term_classes.proofs.ConstantPowers.{in_n_value}
 use Rattle.lin_form.specs.Forms.{IsGreatestDivisor}
 use Rattle.lin_form.proofs.PrimitiveForms.{IsNotZero}
 
-module _ (n k : ℤ) where
+module _ (p : Point) where
   no_coefficient : (n k s : ℤ) → pos 0 +ℤ k *ℤ s ≡ pos 0 *ℤ n +ℤ s *ℤ k +ℤ pos 0
   no_coefficient n k s = ring_z (n ∷ k ∷ s ∷ []) (search reading_z depth 40 fits 20000) refl
 
@@ -33,26 +34,26 @@ module _ (n k : ℤ) where
 
   -- with s for the value of the coefficient of k
   coefficients_value : (xs : List Meaning) (s : ℤ) (l : LinearForm) → form_of_coefficients xs (Some s) ≡ Some l
-      → horner number_of n xs +ℤ k *ℤ s ≡ form_value l n k
-  coefficients_value [] s l e = no_coefficient n k s ∙ ap (λ l. form_value l n k) (same_Some (with_numbers (pos 0) s (pos 0)) l e)
+      → horner number_of p.n xs +ℤ p.k *ℤ s ≡ form_value l p
+  coefficients_value [] s l e = no_coefficient p.n p.k s ∙ ap (λ l. form_value l p) (same_Some (with_numbers (pos 0) s (pos 0)) l e)
   coefficients_value (c ∷ []) s l e =
-      one_coefficient n k s (number_of c) ∙ ap (λ l. form_value l n k) (same_Some (with_numbers (pos 0) s (number_of c)) l e)
+      one_coefficient p.n p.k s (number_of c) ∙ ap (λ l. form_value l p) (same_Some (with_numbers (pos 0) s (number_of c)) l e)
   coefficients_value (c ∷ d ∷ []) s l e =
-      two_coefficients n k s (number_of c) (number_of d) ∙ ap (λ l. form_value l n k) (same_Some (with_numbers (number_of d) s (number_of c)) l e)
+      two_coefficients p.n p.k s (number_of c) (number_of d) ∙ ap (λ l. form_value l p) (same_Some (with_numbers (number_of d) s (number_of c)) l e)
   coefficients_value (c ∷ d ∷ b ∷ xs) s l e = absurd (none-some l e)
 
   with_slope : (xs ys : List Meaning) (s : Option ℤ) (l : LinearForm) → constant_in_n ys ≡ s → form_of_coefficients xs s ≡ Some l
-      → horner number_of n xs +ℤ k *ℤ (horner number_of n ys +ℤ k *ℤ pos 0) ≡ form_value l n k
-  with_slope xs ys None l p e = absurd (none-some l e)
-  with_slope xs ys (Some s) l p e =
-      ap (λ z. horner number_of n xs +ℤ k *ℤ (z +ℤ k *ℤ pos 0)) (in_n_value n k ys s p) ∙ ap (λ z. horner number_of n xs +ℤ k *ℤ z) (once k s)
+      → horner number_of p.n xs +ℤ p.k *ℤ (horner number_of p.n ys +ℤ p.k *ℤ pos 0) ≡ form_value l p
+  with_slope xs ys None l poly e = absurd (none-some l e)
+  with_slope xs ys (Some s) l poly e =
+      ap (λ z. horner number_of p.n xs +ℤ p.k *ℤ (z +ℤ p.k *ℤ pos 0)) (in_n_value p ys s poly) ∙ ap (λ z. horner number_of p.n xs +ℤ p.k *ℤ z) (once p.k s)
       ∙ coefficients_value xs s l e
     where
       once : (k s : ℤ) → s +ℤ k *ℤ pos 0 ≡ s
       once k s = ring_z (k ∷ s ∷ []) (search reading_z depth 40 fits 20000) refl
 
-  items_value : (xs : List Meaning) (l : LinearForm) → form_of_items xs ≡ Some l → horner (value_at (n ∷ [])) k xs ≡ form_value l n k
-  items_value [] l e = nothing n k ∙ ap (λ l. form_value l n k) (same_Some (with_numbers (pos 0) (pos 0) (pos 0)) l e)
+  items_value : (xs : List Meaning) (l : LinearForm) → form_of_items xs ≡ Some l → horner (value_at (values_in_n p)) p.k xs ≡ form_value l p
+  items_value [] l e = nothing p.n p.k ∙ ap (λ l. form_value l p) (same_Some (with_numbers (pos 0) (pos 0) (pos 0)) l e)
     where
       nothing : (n k : ℤ) → pos 0 ≡ pos 0 *ℤ n +ℤ pos 0 *ℤ k +ℤ pos 0
       nothing n k = ring_z (n ∷ k ∷ []) (search reading_z depth 40 fits 20000) refl
@@ -61,8 +62,8 @@ module _ (n k : ℤ) where
   items_value (c ∷ d ∷ b ∷ xs) l e = absurd (none-some l e)
 
   -- the value of a polynomial is that of its linear form
-  pub linear_value : (p : Meaning) (l : LinearForm) → linear_form_of (Some p) ≡ Some l → poly_value p n k ≡ form_value l n k
-  linear_value p l e = items_value (items p) l e
+  pub linear_value : (poly : Meaning) (l : LinearForm) → linear_form_of (Some poly) ≡ Some l → poly_value poly p ≡ form_value l p
+  linear_value poly l e = items_value (items poly) l e
 
 -- the greatest common divisor of the numbers of a form
 abbrev pub divisor_of_form : LinearForm → ℕ
@@ -83,7 +84,7 @@ module _ (f : LinearForm) where
     k_slope = outer_gcd.0;
     n_slope = dvd_trans (divisor_of_form f) outer_gcd.1 inner_gcd.0;
     offset = dvd_trans (divisor_of_form f) outer_gcd.1 inner_gcd.1;
-    greatest = λ c p q r. outer_gcd.2 c p (inner_gcd.2 c q r);
+    greatest = λ c e q r. outer_gcd.2 c e (inner_gcd.2 c q r);
   }
 
   by_content : (z : ℤ) → divisor_of_form f ∣ unsigned_abs z → int_div z (content_of_form f) *ℤ content_of_form f ≡ z
@@ -99,13 +100,14 @@ module _ (f : LinearForm) where
   offset_times = by_content f.offset content_divides.offset
 
   -- the content times the value of the primitive part
-  pub content_times : (n k : ℤ) → content_of_form f *ℤ form_value (primitive_form f) n k ≡ form_value f n k
-  content_times n k =
-      joined n k (content_of_form f) (primitive_form f).n_slope (primitive_form f).k_slope (primitive_form f).offset
-      ∙ (λ i. n_slope_times i *ℤ n +ℤ k_slope_times i *ℤ k +ℤ offset_times i)
+  pub content_times : (p : Point) → content_of_form f *ℤ form_value (primitive_form f) p ≡ form_value f p
+  content_times p =
+      joined p.n p.k (content_of_form f) (primitive_form f).n_slope (primitive_form f).k_slope (primitive_form f).offset
+      ∙ (λ i. n_slope_times i *ℤ p.n +ℤ k_slope_times i *ℤ p.k +ℤ offset_times i)
     where
       joined : (n k c s t o : ℤ) → c *ℤ (s *ℤ n +ℤ t *ℤ k +ℤ o) ≡ (s *ℤ c) *ℤ n +ℤ (t *ℤ c) *ℤ k +ℤ o *ℤ c
       joined n k c s t o = ring_z (n ∷ k ∷ c ∷ s ∷ t ∷ o ∷ []) (search reading_z depth 40 fits 20000) refl
+
 
 -- the content of a form that isn't 0
 pub content_not_zero : (f : LinearForm) → IsNotZero f → content_of_form f ≢ pos 0

@@ -2,6 +2,7 @@
 use Rattle.std.proofs.Common.{◌≡◌, ℕ, ◌+◌, ap, sym, ◌∙◌, List, [], ◌∷◌}
 use Rattle.std.proofs.lemmas.Bool.{cond_both}
 use Rattle.std.specs.Prelude.{ℤ, pos}
+use Rattle.hypergeometric.specs.Point.{Point}
 use Rattle.hypergeometric.specs.Fraction.{Fraction, of_whole, fraction_product, natural_power, whole_power}
 use Rattle.hypergeometric.specs.LinearForm.{LinearForm, Factor, form_value, product_over}
 use Rattle.hypergeometric.specs.ProperTerm.{ProperTerm, proper_value, IsNonzero, HasFractions}
@@ -14,24 +15,24 @@ use Rattle.term_classes.proofs.NonzeroPowers.{product_nonzero}
 use Rattle.term_classes.proofs.LowestTerms.{lowest_same, lowest_nonzero, raised_same, raised_nonzero}
 
 -- the value of s' is that of s times v, and the scale and the bases of s' aren't 0
-pub record IsTimes (s s' : ProperTerm) (v : ℤ → ℤ → Fraction) : Type 0 where
+pub record IsTimes (s s' : ProperTerm) (v : Point → Fraction) : Type 0 where
   pub fractions : HasFractions s'
-  pub value : (n k : ℤ) → proper_value s' n k ≅ fraction_product (proper_value s n k) (v n k)
+  pub value : (p : Point) → proper_value s' p ≅ fraction_product (proper_value s p) (v p)
 
-pub times_nothing : (s : ProperTerm) → HasFractions s → IsTimes s s (λ n k. of_whole (pos 1))
-times_nothing s h = record { fractions = h; value = λ n k. same (sym (product_one (proper_value s n k))) }
+pub times_nothing : (s : ProperTerm) → HasFractions s → IsTimes s s (λ p. of_whole (pos 1))
+times_nothing s h = record { fractions = h; value = λ p. same (sym (product_one (proper_value s p))) }
 
-pub times_both : (s t r : ProperTerm) (u v : ℤ → ℤ → Fraction) → IsTimes s t u → IsTimes t r v → IsTimes s r (λ n k. fraction_product (u n k) (v n k))
-times_both s t r u v p q = record {
+pub times_both : (s t r : ProperTerm) (u v : Point → Fraction) → IsTimes s t u → IsTimes t r v → IsTimes s r (λ p. fraction_product (u p) (v p))
+times_both s t r u v e q = record {
   fractions = q.fractions;
-  value = λ n k. same_chain (q.value n k) (same_chain (same_products (p.value n k) (same_itself (v n k)))
-      (same (product_assoc (proper_value s n k) (u n k) (v n k))));
+  value = λ p. same_chain (q.value p) (same_chain (same_products (e.value p) (same_itself (v p)))
+      (same (product_assoc (proper_value s p) (u p) (v p))));
 }
 
-pub times_same : (s t : ProperTerm) (u v : ℤ → ℤ → Fraction) → IsTimes s t u → ((n k : ℤ) → u n k ≅ v n k) → IsTimes s t v
-times_same s t u v p e = record {
-  fractions = p.fractions;
-  value = λ n k. same_chain (p.value n k) (same_products (same_itself (proper_value s n k)) (e n k));
+pub times_same : (s t : ProperTerm) (u v : Point → Fraction) → IsTimes s t u → ((p : Point) → u p ≅ v p) → IsTimes s t v
+times_same s t u v given e = record {
+  fractions = given.fractions;
+  value = λ p. same_chain (given.value p) (same_products (same_itself (proper_value s p)) (e p));
 }
 
 -- a factor that stands first in a product, moved last; and one that stands last in the second factor
@@ -47,17 +48,17 @@ pub outer : (r : Fraction) {y : Fraction} (z x : Fraction) → y ≅ fraction_pr
 outer r {y} z x e = same_chain (same_products e (same_itself r)) (same (moved_last z x r))
 
 -- one more factor of a list
-pub factor_times : (f : ℤ → Fraction) (a : LinearForm) (power : ℕ) (xs : List Factor) (n k : ℤ)
-    → product_over f (lists.with_factor a power xs) n k ≡ fraction_product (product_over f xs n k) (natural_power (f (form_value a n k)) power)
-factor_times f a power [] n k = product_comm (natural_power (f (form_value a n k)) power) (of_whole (pos 1))
-factor_times f a power (x ∷ xs) n k =
+pub factor_times : (f : ℤ → Fraction) (a : LinearForm) (power : ℕ) (xs : List Factor) (p : Point)
+    → product_over f (lists.with_factor a power xs) p ≡ fraction_product (product_over f xs p) (natural_power (f (form_value a p)) power)
+factor_times f a power [] p = product_comm (natural_power (f (form_value a p)) power) (of_whole (pos 1))
+factor_times f a power (x ∷ xs) p =
     cond_both (lists.same_form a x.form) (lists.factor_with x.form (x.power + power) ∷ xs) (x ∷ lists.with_factor a power xs)
-    (λ ys. product_over f ys n k ≡ fraction_product (product_over f (x ∷ xs) n k) (natural_power (f (form_value a n k)) power))
-    (λ e. ap (λ p. fraction_product p (product_over f xs n k)) (power_of_sum (f (form_value x.form n k)) x.power power)
-    ∙ moved_last (natural_power (f (form_value x.form n k)) x.power) (natural_power (f (form_value x.form n k)) power) (product_over f xs n k)
-    ∙ ap (λ y. fraction_product (product_over f (x ∷ xs) n k) (natural_power (f (form_value y n k)) power)) (sym (same_form_found a x.form e)))
-    (λ e. ap (fraction_product (natural_power (f (form_value x.form n k)) x.power)) (factor_times f a power xs n k)
-    ∙ sym (product_assoc (natural_power (f (form_value x.form n k)) x.power) (product_over f xs n k) (natural_power (f (form_value a n k)) power)))
+    (λ ys. product_over f ys p ≡ fraction_product (product_over f (x ∷ xs) p) (natural_power (f (form_value a p)) power))
+    (λ e. ap (λ given. fraction_product given (product_over f xs p)) (power_of_sum (f (form_value x.form p)) x.power power)
+    ∙ moved_last (natural_power (f (form_value x.form p)) x.power) (natural_power (f (form_value x.form p)) power) (product_over f xs p)
+    ∙ ap (λ y. fraction_product (product_over f (x ∷ xs) p) (natural_power (f (form_value y p)) power)) (sym (same_form_found a x.form e)))
+    (λ e. ap (fraction_product (natural_power (f (form_value x.form p)) x.power)) (factor_times f a power xs p)
+    ∙ sym (product_assoc (natural_power (f (form_value x.form p)) x.power) (product_over f xs p) (natural_power (f (form_value a p)) power)))
 
 -- a fraction times another one to a power, in lowest terms
 pub power_multiplied : (f g : Fraction) (w : ℤ) → IsNonzero f → IsNonzero g → lowest_terms (fraction_product f (raised_fraction g w))

@@ -3,6 +3,7 @@ use Rattle.std.proofs.Common.{◌≡◌, ◌≢◌, ℕ, refl, ap, sym, ◌∙�
 use Rattle.std.proofs.lemmas.Int.{ints}
 use Rattle.ring_laws.specs.Meaning.{Meaning}
 use Rattle.std.specs.Prelude.{ℤ, pos, negsuc, ◌*ℤ◌, unsigned_abs, if◌then◌else◌, Ok}
+use Rattle.hypergeometric.specs.Point.{Point}
 use Rattle.hypergeometric.specs.Fraction.{Fraction, of_whole, fraction_product, whole_power}
 use Rattle.hypergeometric.specs.LinearForm.{LinearForm, form_value}
 use Rattle.hypergeometric.specs.ProperTerm.{ProperTerm, HasFractions}
@@ -48,47 +49,47 @@ base_found at (Some g) f e = by (is_zero g.top) refl e
     by true p q = absurd (not_refused (improper 4 at) f q)
     by false p q = record { found = ap Some (same_Ok g f q); top = subst (λ f. f.top ≢ pos 0) (same_Ok g f q) (not_zero g.top p) }
 
-abbrev exponent_value : Tree → Tree → ℤ → ℤ → ℤ → Fraction
-exponent_value base e w n k = at_whole (λ z. whole_power (tree_value base (pos 1) n k) (w *ℤ z)) (tree_value e (pos 1) n k)
+abbrev exponent_value : Tree → Tree → ℤ → Point → Fraction
+exponent_value base e w p = at_whole (λ z. whole_power (tree_value base (pos 1) p) (w *ℤ z)) (tree_value e (pos 1) p)
 
 -- an exponent that is no constant
 abbrev pub exponential_walk : ℕ → Tree → Tree → Option LinearForm → ℤ → ProperTerm → Steps ProperTerm
 exponential_walk at base e l w s = constant_sought base then (λ b. base_or_refused at b then (λ b1. form_or_refused 5 e l then (λ l.
     limited_exponent l then (λ l1. times_exponential at b1 l w s))))
 
-exponential_has : (at : ℕ) (base e : Tree) (p : Option Meaning) (w : ℤ) (s s' : ProperTerm) → HasFractions s → tree_polynomial e ≡ p
-    → (exponential_walk at base e (linear_form_of p) w s).outcome ≡ Ok s' → IsTimes s s' (exponent_value base e w)
-exponential_has at base e p w s s' h is given =
-    let a = then_gave (constant_sought base) (λ b. base_or_refused at b then (λ b1. form_or_refused 5 e (linear_form_of p) then (λ l.
+exponential_has : (at : ℕ) (base e : Tree) (poly : Option Meaning) (w : ℤ) (s s' : ProperTerm) → HasFractions s → tree_polynomial e ≡ poly
+    → (exponential_walk at base e (linear_form_of poly) w s).outcome ≡ Ok s' → IsTimes s s' (exponent_value base e w)
+exponential_has at base e poly w s s' h is given =
+    let a = then_gave (constant_sought base) (λ b. base_or_refused at b then (λ b1. form_or_refused 5 e (linear_form_of poly) then (λ l.
     limited_exponent l then (λ l1. times_exponential at b1 l w s)))) s' given in
     let b = then_gave (base_or_refused at a.value)
-    (λ b1. form_or_refused 5 e (linear_form_of p) then (λ l. limited_exponent l then (λ l1. times_exponential at b1 l w s))) s' a.second in
-    let c = then_gave (form_or_refused 5 e (linear_form_of p)) (λ l. limited_exponent l then (λ l1. times_exponential at b.value l w s))
+    (λ b1. form_or_refused 5 e (linear_form_of poly) then (λ l. limited_exponent l then (λ l1. times_exponential at b1 l w s))) s' a.second in
+    let c = then_gave (form_or_refused 5 e (linear_form_of poly)) (λ l. limited_exponent l then (λ l1. times_exponential at b.value l w s))
     s' b.second in
     let d = skipped (limited_exponent c.value) (times_exponential at b.value c.value w s) s' c.second in
     let base_is = base_found at a.value b.value b.first in
     let constant = constant_has base b.value (a.first ∙ ap Ok base_is.found) in
-    let form = form_found 5 e p c.value is c.first in
-    times_same s s' (λ n k. whole_power b.value (w *ℤ form_value c.value n k)) (exponent_value base e w)
+    let form = form_found 5 e poly c.value is c.first in
+    times_same s s' (λ p. whole_power b.value (w *ℤ form_value c.value p)) (exponent_value base e w)
     (exponential_row at b.value c.value w s s' h (record { top = base_is.top; bottom = constant.defined }) d)
-    (λ n k. same_turned (same_chain
-    (same (at_whole_value (λ z. whole_power (tree_value base (pos 1) n k) (w *ℤ z)) (tree_value e (pos 1) n k) (form_value c.value n k) (form n k)))
-    (same_whole_powers (w *ℤ form_value c.value n k) (same_chain (constant.power (pos 1) n k) (same (product_one b.value))))))
+    (λ p. same_turned (same_chain
+    (same (at_whole_value (λ z. whole_power (tree_value base (pos 1) p) (w *ℤ z)) (tree_value e (pos 1) p) (form_value c.value p) (form p)))
+    (same_whole_powers (w *ℤ form_value c.value p) (same_chain (constant.power (pos 1) p) (same (product_one b.value))))))
 
 -- a constant exponent
 constant_walk : (base : Tree) (c w : ℤ) (s s' : ProperTerm) → HasFractions s → WalkMultiplies base → (b : Bool)
     → (if b then gives s else walk base (w *ℤ c) s).outcome ≡ Ok s'
-    → IsTimes s s' (λ n k. if b then of_whole (pos 1) else tree_value base (w *ℤ c) n k)
-constant_walk base c w s s' h rest true e = subst (λ t. IsTimes s t (λ n k. of_whole (pos 1))) (same_Ok s s' e) (times_nothing s h)
+    → IsTimes s s' (λ p. if b then of_whole (pos 1) else tree_value base (w *ℤ c) p)
+constant_walk base c w s s' h rest true e = subst (λ t. IsTimes s t (λ p. of_whole (pos 1))) (same_Ok s s' e) (times_nothing s h)
 constant_walk base c w s s' h rest false e = rest (w *ℤ c) s s' h e
 
-power_has : (at : ℕ) (base e : Tree) (p : Option Meaning) (c : Option ℤ) (w : ℤ) (s s' : ProperTerm) → HasFractions s → tree_polynomial e ≡ p
+power_has : (at : ℕ) (base e : Tree) (poly : Option Meaning) (c : Option ℤ) (w : ℤ) (s s' : ProperTerm) → HasFractions s → tree_polynomial e ≡ poly
     → (elim c as (λ _. Steps ProperTerm) [
       | Some c ↦ within_limit exponent_limit 12 (unsigned_abs (w *ℤ c)) c then (λ c1. if is_zero c then gives s else walk base (w *ℤ c) s)
-      | None ↦ exponential_walk at base e (linear_form_of p) w s
-    ]).outcome ≡ Ok s' → WalkMultiplies base → IsTimes s s' (λ n k. power_value base c w n k (exponent_value base e w n k))
-power_has at base e p None w s s' h is given rest = exponential_has at base e p w s s' h is given
-power_has at base e p (Some c) w s s' h is given rest =
+      | None ↦ exponential_walk at base e (linear_form_of poly) w s
+    ]).outcome ≡ Ok s' → WalkMultiplies base → IsTimes s s' (λ p. power_value base c w p (exponent_value base e w p))
+power_has at base e poly None w s s' h is given rest = exponential_has at base e poly w s s' h is given
+power_has at base e poly (Some c) w s s' h is given rest =
     constant_walk base c w s s' h rest (is_zero c)
     (skipped (within_limit exponent_limit 12 (unsigned_abs (w *ℤ c)) c) (if is_zero c then gives s else walk base (w *ℤ c) s) s' given)
 
@@ -99,7 +100,7 @@ sought_has : (at : ℕ) (node : Node) (w : ℤ) (s s' : ProperTerm) → HasFract
 sought_has at node w s s' h e =
     let g = then_gave (node_polynomial_sought at node) (times_sought at w s) s' e in
     sought_row at w s s' g.value (λ q f. node_belongs node q (node_sought_is at node g.value g.first ∙ f)) h g.second (node_value node w)
-    (λ q f n k. node_has node q (node_sought_is at node g.value g.first ∙ f) w n k)
+    (λ q f p. node_has node q (node_sought_is at node g.value g.first ∙ f) w p)
 
 pub minus_one_not_zero : negsuc 0 ≢ pos 0
 minus_one_not_zero e = omega (arith, ints, e)
@@ -118,29 +119,29 @@ mutual
   node_multiplies at (sum_of (part true t (part turned u parts))) w s s' h e = sought_has at (sum_of (part true t (part turned u parts))) w s s' h e
   node_multiplies at (sum_of (part true t no_parts)) w s s' h e =
       let r : ProperTerm = with_scale (lowest_terms (fraction_product s.scale (raised_fraction (of_whole (negsuc 0)) w))) s in
-      let p = scale_times s h (of_whole (negsuc 0)) w (record { top = minus_one_not_zero; bottom = one_not_zero }) in
-      times_both s r s' (λ n k. whole_power (of_whole (negsuc 0)) w) (tree_value t w) p (walk_multiplies t w r s' p.fractions e)
+      let own = scale_times s h (of_whole (negsuc 0)) w (record { top = minus_one_not_zero; bottom = one_not_zero }) in
+      times_both s r s' (λ p. whole_power (of_whole (negsuc 0)) w) (tree_value t w) own (walk_multiplies t w r s' own.fractions e)
   node_multiplies at (product_of parts) w s s' h e = parts_multiply parts w s s' h e
   node_multiplies at (power_of base e) w s s' h given =
-      let g = then_gave (polynomial_sought e) (λ p. elim (constant_of p) as (λ _. Steps ProperTerm) [
+      let g = then_gave (polynomial_sought e) (λ own. elim (constant_of own) as (λ _. Steps ProperTerm) [
         | Some c ↦ within_limit exponent_limit 12 (unsigned_abs (w *ℤ c)) c then (λ c1. if is_zero c then gives s else walk base (w *ℤ c) s)
-        | None ↦ exponential_walk at base e (linear_form_of p) w s
+        | None ↦ exponential_walk at base e (linear_form_of own) w s
       ]) s' given in
-      subst (λ q. IsTimes s s' (λ n k. power_value base (constant_of q) w n k (exponent_value base e w n k))) (sym (sought_is e g.value g.first))
+      subst (λ q. IsTimes s s' (λ p. power_value base (constant_of q) w p (exponent_value base e w p))) (sym (sought_is e g.value g.first))
       (power_has at base e g.value (constant_of g.value) w s s' h (sought_is e g.value g.first) g.second (walk_multiplies base))
   node_multiplies at (factorial_of t) w s s' h e =
       let g = then_gave (argument_sought t) (λ l. not_negative (place_of t) l then (λ l1. limited_form l then (λ l2. with_factorial l w s))) s' e in
       let i = skipped (not_negative (place_of t) g.value) (limited_form g.value then (λ l2. with_factorial g.value w s)) s' g.second in
       let j = skipped (limited_form g.value) (with_factorial g.value w s) s' i in
-      times_same s s' (λ n k. factorial_power w (form_value g.value n k)) (node_value (factorial_of t) w) (factorial_row g.value w s s' h j)
-      (λ n k. same (sym (at_whole_value (factorial_power w) (tree_value t (pos 1) n k) (form_value g.value n k)
-      (argument_found t g.value g.first n k))))
+      times_same s s' (λ p. factorial_power w (form_value g.value p)) (node_value (factorial_of t) w) (factorial_row g.value w s s' h j)
+      (λ p. same (sym (at_whole_value (factorial_power w) (tree_value t (pos 1) p) (form_value g.value p)
+      (argument_found t g.value g.first p))))
   node_multiplies at (binomial_of upper lower) w s s' h e = binomial_row at upper lower w s s' h e
 
   parts_multiply : (parts : Parts) (w : ℤ) (s s' : ProperTerm) → HasFractions s → (walk_parts parts w s).outcome ≡ Ok s'
       → IsTimes s s' (product_value parts w)
-  parts_multiply no_parts w s s' h e = subst (λ t. IsTimes s t (λ n k. of_whole (pos 1))) (same_Ok s s' e) (times_nothing s h)
+  parts_multiply no_parts w s s' h e = subst (λ t. IsTimes s t (λ p. of_whole (pos 1))) (same_Ok s s' e) (times_nothing s h)
   parts_multiply (part turned t parts) w s s' h e =
       let g = then_gave (walk t (part_power turned w) s) (λ g. walk_parts parts w g) s' e in
-      let p = walk_multiplies t (part_power turned w) s g.value h g.first in
-      times_both s g.value s' (tree_value t (part_power turned w)) (product_value parts w) p (parts_multiply parts w g.value s' p.fractions g.second)
+      let own = walk_multiplies t (part_power turned w) s g.value h g.first in
+      times_both s g.value s' (tree_value t (part_power turned w)) (product_value parts w) own (parts_multiply parts w g.value s' own.fractions g.second)

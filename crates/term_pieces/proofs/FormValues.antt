@@ -7,37 +7,40 @@ use Rattle.ring_solver.specs.Ranges.{over, rising}
 use Rattle.ring_solver.proofs.Integers.{integers}
 use Rattle.ring_solver.proofs.Read.{ring_z, reading_z}
 use Rattle.ring_solver.proofs.Sums.{rising_first}
+use Rattle.hypergeometric.specs.Point.{Point, values, later_n, later_k}
 use Rattle.hypergeometric.specs.LinearForm.{LinearForm, Factor, form_value, forms_value}
 use Rattle.lin_form.specs.FactorLists.{factor_with}
 use Rattle.term_pieces.specs.Products.{form_plus, at_later_n, at_later_k, forms_above, forms_below}
 
-pub plus_value : (f : LinearForm) (c n k : ℤ) → form_value (form_plus f c) n k ≡ form_value f n k +ℤ c
-plus_value f c n k = group (f.n_slope *ℤ n) (f.k_slope *ℤ k) f.offset c
+pub plus_value : (f : LinearForm) (c : ℤ) (p : Point) → form_value (form_plus f c) p ≡ form_value f p +ℤ c
+plus_value f c p = group (f.n_slope *ℤ p.n) (f.k_slope *ℤ p.k) f.offset c
   where
     group : (a b o c : ℤ) → (a +ℤ b) +ℤ (o +ℤ c) ≡ ((a +ℤ b) +ℤ o) +ℤ c
     group a b o c = omega (arith, ints)
 
-pub later_n_value : (f : LinearForm) (j n k : ℤ) → form_value (at_later_n f j) n k ≡ form_value f (n +ℤ j) k
-later_n_value f j n k = shift f.n_slope (f.k_slope *ℤ k) f.offset n j
+pub later_n_value : (f : LinearForm) (j : ℤ) (p : Point) → form_value (at_later_n f j) p ≡ form_value f (later_n p j)
+later_n_value f j p = shift f.n_slope (f.k_slope *ℤ p.k) f.offset p.n j
   where
     shift : (s b o n j : ℤ) → (s *ℤ n +ℤ b) +ℤ (o +ℤ s *ℤ j) ≡ (s *ℤ (n +ℤ j) +ℤ b) +ℤ o
     shift s b o n j = ring_z (s ∷ b ∷ o ∷ n ∷ j ∷ []) (search reading_z depth 40 fits 20000) refl
 
-pub later_k_value : (f : LinearForm) (j n k : ℤ) → form_value (at_later_k f j) n k ≡ form_value f n (k +ℤ j)
-later_k_value f j n k = shift (f.n_slope *ℤ n) f.k_slope f.offset k j
+
+pub later_k_value : (f : LinearForm) (j : ℤ) (p : Point) → form_value (at_later_k f j) p ≡ form_value f (later_k p j)
+later_k_value f j p = shift (f.n_slope *ℤ p.n) f.k_slope f.offset p.k j
   where
     shift : (a s o k j : ℤ) → (a +ℤ s *ℤ k) +ℤ (o +ℤ s *ℤ j) ≡ (a +ℤ s *ℤ (k +ℤ j)) +ℤ o
     shift a s o k j = ring_z (a ∷ s ∷ o ∷ k ∷ j ∷ []) (search reading_z depth 40 fits 20000) refl
 
+
 -- the value of lists that are joined
-pub joined_value : (xs ys : List Factor) (n k : ℤ) → forms_value (xs ++ ys) n k ≡ forms_value xs n k *ℤ forms_value ys n k
-joined_value [] ys n k = one_times (forms_value ys n k)
+pub joined_value : (xs ys : List Factor) (p : Point) → forms_value (xs ++ ys) p ≡ forms_value xs p *ℤ forms_value ys p
+joined_value [] ys p = one_times (forms_value ys p)
   where
     one_times : (x : ℤ) → x ≡ pos 1 *ℤ x
     one_times x = ring_z (x ∷ []) (search reading_z depth 40 fits 20000) refl
-joined_value (x ∷ xs) ys n k =
-    ap (λ t. pow (form_value x.form n k) x.power *ℤ t) (joined_value xs ys n k)
-    ∙ sym (integers.mul_assoc (pow (form_value x.form n k) x.power) (forms_value xs n k) (forms_value ys n k))
+joined_value (x ∷ xs) ys p =
+    ap (λ t. pow (form_value x.form p) x.power *ℤ t) (joined_value xs ys p)
+    ∙ sym (integers.mul_assoc (pow (form_value x.form p) x.power) (forms_value xs p) (forms_value ys p))
 
 -- the power of a product
 pub pow_of_product : (a b : ℤ) (e : ℕ) → pow (a *ℤ b) e ≡ pow a e *ℤ pow b e
@@ -59,36 +62,36 @@ times_one : (x : ℤ) → x *ℤ pos 1 ≡ x
 times_one x = ring_z (x ∷ []) (search reading_z depth 40 fits 20000) refl
 
 -- a list of one form
-pub lone_value : (f : LinearForm) (e : ℕ) (n k : ℤ) → forms_value (factor_with f e ∷ []) n k ≡ pow (form_value f n k) e
-lone_value f e n k = times_one (pow (form_value f n k) e)
+pub lone_value : (f : LinearForm) (e : ℕ) (p : Point) → forms_value (factor_with f e ∷ []) p ≡ pow (form_value f p) e
+lone_value f e p = times_one (pow (form_value f p) e)
 
 -- (f + 1)(f + 2) .. (f + m)
-pub above_value : (f : LinearForm) (m e : ℕ) (n k : ℤ) → forms_value (forms_above f m e) n k ≡ pow (rising (form_value f n k +ℤ pos 1) m) e
+pub above_value : (f : LinearForm) (m e : ℕ) (p : Point) → forms_value (forms_above f m e) p ≡ pow (rising (form_value f p +ℤ pos 1) m) e
 unfolding over
-above_value f zero e n k = sym (pow_of_one e)
-above_value f (suc m) e n k =
-    let v = form_value f n k in
-    let last : form_value (form_plus f (pos (suc m))) n k ≡ (v +ℤ pos 1) +ℤ pos m = plus_value f (pos (suc m)) n k ∙ one_first v m in
-    joined_value (forms_above f m e) (factor_with (form_plus f (pos (suc m))) e ∷ []) n k
-    ∙ ap (λ t. t *ℤ forms_value (factor_with (form_plus f (pos (suc m))) e ∷ []) n k) (above_value f m e n k)
-    ∙ ap (λ t. pow (rising (v +ℤ pos 1) m) e *ℤ t) (lone_value (form_plus f (pos (suc m))) e n k ∙ ap (λ t. pow t e) last)
+above_value f zero e p = sym (pow_of_one e)
+above_value f (suc m) e p =
+    let v = form_value f p in
+    let last : form_value (form_plus f (pos (suc m))) p ≡ (v +ℤ pos 1) +ℤ pos m = plus_value f (pos (suc m)) p ∙ one_first v m in
+    joined_value (forms_above f m e) (factor_with (form_plus f (pos (suc m))) e ∷ []) p
+    ∙ ap (λ t. t *ℤ forms_value (factor_with (form_plus f (pos (suc m))) e ∷ []) p) (above_value f m e p)
+    ∙ ap (λ t. pow (rising (v +ℤ pos 1) m) e *ℤ t) (lone_value (form_plus f (pos (suc m))) e p ∙ ap (λ t. pow t e) last)
     ∙ sym (pow_of_product (rising (v +ℤ pos 1) m) ((v +ℤ pos 1) +ℤ pos m) e)
   where
     one_first : (v : ℤ) (m : ℕ) → v +ℤ pos (suc m) ≡ (v +ℤ pos 1) +ℤ pos m
     one_first v m = omega (arith, ints)
 
 -- f (f - 1) .. (f - m + 1)
-pub below_value : (f : LinearForm) (m e : ℕ) (n k : ℤ)
-    → forms_value (forms_below f m e) n k ≡ pow (rising ((form_value f n k -ℤ pos m) +ℤ pos 1) m) e
+pub below_value : (f : LinearForm) (m e : ℕ) (p : Point)
+    → forms_value (forms_below f m e) p ≡ pow (rising ((form_value f p -ℤ pos m) +ℤ pos 1) m) e
 unfolding over
-below_value f zero e n k = sym (pow_of_one e)
-below_value f (suc m) e n k =
-    let v = form_value f n k in
-    let first : form_value (form_plus f (neg_ℤ (pos m))) n k ≡ (v -ℤ pos (suc m)) +ℤ pos 1 = plus_value f (neg_ℤ (pos m)) n k ∙ one_less v m in
+below_value f zero e p = sym (pow_of_one e)
+below_value f (suc m) e p =
+    let v = form_value f p in
+    let first : form_value (form_plus f (neg_ℤ (pos m))) p ≡ (v -ℤ pos (suc m)) +ℤ pos 1 = plus_value f (neg_ℤ (pos m)) p ∙ one_less v m in
     let after : (v -ℤ pos m) +ℤ pos 1 ≡ ((v -ℤ pos (suc m)) +ℤ pos 1) +ℤ pos 1 = omega (arith, ints) in
-    joined_value (forms_below f m e) (factor_with (form_plus f (neg_ℤ (pos m))) e ∷ []) n k
-    ∙ ap (λ t. t *ℤ forms_value (factor_with (form_plus f (neg_ℤ (pos m))) e ∷ []) n k) (below_value f m e n k)
-    ∙ ap (λ t. pow (rising ((v -ℤ pos m) +ℤ pos 1) m) e *ℤ t) (lone_value (form_plus f (neg_ℤ (pos m))) e n k ∙ ap (λ t. pow t e) first)
+    joined_value (forms_below f m e) (factor_with (form_plus f (neg_ℤ (pos m))) e ∷ []) p
+    ∙ ap (λ t. t *ℤ forms_value (factor_with (form_plus f (neg_ℤ (pos m))) e ∷ []) p) (below_value f m e p)
+    ∙ ap (λ t. pow (rising ((v -ℤ pos m) +ℤ pos 1) m) e *ℤ t) (lone_value (form_plus f (neg_ℤ (pos m))) e p ∙ ap (λ t. pow t e) first)
     ∙ sym (pow_of_product (rising ((v -ℤ pos m) +ℤ pos 1) m) ((v -ℤ pos (suc m)) +ℤ pos 1) e)
     ∙ ap (λ t. pow t e) (ap (λ t. rising t m *ℤ ((v -ℤ pos (suc m)) +ℤ pos 1)) after
     ∙ integers.mul_comm (rising (((v -ℤ pos (suc m)) +ℤ pos 1) +ℤ pos 1) m) ((v -ℤ pos (suc m)) +ℤ pos 1)

@@ -3,6 +3,7 @@ use Rattle.std.proofs.Common.{◌≡◌, ℕ, ◌-◌, ◌*◌, ◌≤◌, [], �
 use Rattle.std.proofs.lemmas.Int.{ints}
 use Rattle.std.specs.Prelude.{ℤ, pos, negsuc, neg_ℤ, ◌+ℤ◌, ◌-ℤ◌, ◌*ℤ◌, ◌≤ℤ◌, unsigned_abs}
 use Rattle.ring_solver.proofs.Read.{ring_z, reading_z}
+use Rattle.hypergeometric.specs.Point.{Point, later_n}
 use Rattle.hypergeometric.specs.LinearForm.{LinearForm, form_value}
 use Rattle.term_pieces.specs.Products.{at_later_n}
 use Rattle.term_pieces.specs.Pieces.{negative_part, positive_part, least_of, greatest_of}
@@ -46,25 +47,25 @@ below_greatest_some (negsuc m) j order h =
     turned : (s j : ℤ) → neg_ℤ (neg_ℤ s *ℤ j) ≡ s *ℤ j
     turned s j = ring_z (s ∷ j ∷ []) (search reading_z depth 40 fits 20000) refl
 
-module _ (f : LinearForm) (order : ℕ) (n k : ℤ) where
+module _ (f : LinearForm) (order : ℕ) (p : Point) where
   -- the form at n + j is its least value and the rest
   pub from_least : (j : ℕ) → j ≤ order
-      → form_value f (n +ℤ pos j) k
-      ≡ form_value (least_of order f) n k +ℤ pos (unsigned_abs (f.n_slope *ℤ pos j -ℤ negative_part f.n_slope *ℤ pos order))
+      → form_value f (later_n p (pos j))
+      ≡ form_value (least_of order f) p +ℤ pos (unsigned_abs (f.n_slope *ℤ pos j -ℤ negative_part f.n_slope *ℤ pos order))
   from_least j h =
       let rest = f.n_slope *ℤ pos j -ℤ negative_part f.n_slope *ℤ pos order in
       let size = size_is rest (above_least_some f.n_slope j order h) in
-      let there = sym (later_n_value f (pos j) n k) ∙ plus_value f (f.n_slope *ℤ pos j) n k in
-      let least = plus_value f (negative_part f.n_slope *ℤ pos order) n k in
+      let there = sym (later_n_value f (pos j) p) ∙ plus_value f (f.n_slope *ℤ pos j) p in
+      let least = plus_value f (negative_part f.n_slope *ℤ pos order) p in
       omega (arith, ints, size, there, least)
 
   -- the greatest value is the form at n + j and the rest
   pub to_greatest : (j : ℕ) → j ≤ order
-      → form_value (greatest_of order f) n k
-      ≡ form_value (at_later_n f (pos j)) n k +ℤ pos (unsigned_abs (positive_part f.n_slope *ℤ pos order -ℤ f.n_slope *ℤ pos j))
+      → form_value (greatest_of order f) p
+      ≡ form_value (at_later_n f (pos j)) p +ℤ pos (unsigned_abs (positive_part f.n_slope *ℤ pos order -ℤ f.n_slope *ℤ pos j))
   to_greatest j h =
       let rest = positive_part f.n_slope *ℤ pos order -ℤ f.n_slope *ℤ pos j in
       let size = size_is rest (below_greatest_some f.n_slope j order h) in
-      let there = plus_value f (f.n_slope *ℤ pos j) n k in
-      let greatest = plus_value f (positive_part f.n_slope *ℤ pos order) n k in
+      let there = plus_value f (f.n_slope *ℤ pos j) p in
+      let greatest = plus_value f (positive_part f.n_slope *ℤ pos order) p in
       omega (arith, ints, size, there, greatest)

@@ -2,6 +2,7 @@
 use Rattle.std.proofs.Common.{◌≡◌, ℕ, ◌+◌, ◌≤◌, Bool, true, false, List, [], ◌∷◌, ◌++◌, refl, ap, sym, ◌∙◌, subst, arith}
 use Rattle.std.proofs.lemmas.Int.{ints}
 use Rattle.std.specs.Prelude.{ℤ, pos, negsuc, ◌+ℤ◌, ◌-ℤ◌, ◌*ℤ◌, ◌≤ℤ◌, cond}
+use Rattle.hypergeometric.specs.Point.{Point, values, later_n, later_k}
 use Rattle.hypergeometric.specs.Fraction.{Fraction, ◌≈◌, fraction_product, natural_power}
 use Rattle.hypergeometric.specs.LinearForm.{LinearForm, Factor, form_value, forms_value, factorial_value, inverse_factorial_value, product_over}
 use Rattle.hypergeometric.specs.ProperTerm.{NoneNegative, NoneZero}
@@ -30,86 +31,86 @@ splits_same order v t t' h h' m m' r r' q q' te he me re qe s = record {
 }
 
 -- the least of a form is its value at n or at n + J
-pub least_is : (f : LinearForm) (order : ℕ) (n k : ℤ) → pos 0 ≤ℤ form_value f n k → pos 0 ≤ℤ form_value f (n +ℤ pos order) k
-    → pos 0 ≤ℤ form_value (least_of order f) n k
-least_is f order n k first last = by f.n_slope refl
+pub least_is : (f : LinearForm) (order : ℕ) (p : Point) → pos 0 ≤ℤ form_value f p → pos 0 ≤ℤ form_value f (later_n p (pos order))
+    → pos 0 ≤ℤ form_value (least_of order f) p
+least_is f order p first last = by f.n_slope refl
   where
-    there : form_value (at_later_n f (pos order)) n k ≡ form_value f (n +ℤ pos order) k
-    there = later_n_value f (pos order) n k
+    there : form_value (at_later_n f (pos order)) p ≡ form_value f (later_n p (pos order))
+    there = later_n_value f (pos order) p
 
-    by : (s : ℤ) → f.n_slope ≡ s → pos 0 ≤ℤ form_value (form_plus f (negative_part s *ℤ pos order)) n k
+    by : (s : ℤ) → f.n_slope ≡ s → pos 0 ≤ℤ form_value (form_plus f (negative_part s *ℤ pos order)) p
     by (pos m) e =
-        let here : form_value (form_plus f (pos 0 *ℤ pos order)) n k ≡ form_value f n k +ℤ pos 0 *ℤ pos order = plus_value f (pos 0 *ℤ pos order) n k in
+        let here : form_value (form_plus f (pos 0 *ℤ pos order)) p ≡ form_value f p +ℤ pos 0 *ℤ pos order = plus_value f (pos 0 *ℤ pos order) p in
         let nothing : pos 0 *ℤ pos order ≡ pos 0 = zero_times (pos order) in
         omega (arith, ints, here, nothing, first)
     by (negsuc m) e =
-        let same : form_value (form_plus f (negsuc m *ℤ pos order)) n k ≡ form_value (at_later_n f (pos order)) n k =
-        ap (λ s. form_value (form_plus f (s *ℤ pos order)) n k) (sym e) in
+        let same : form_value (form_plus f (negsuc m *ℤ pos order)) p ≡ form_value (at_later_n f (pos order)) p =
+        ap (λ s. form_value (form_plus f (s *ℤ pos order)) p) (sym e) in
         omega (arith, ints, same, there, last)
 
-module _ (order : ℕ) (n k : ℤ) where
-  pub up_splits : (xs : List Factor) → NoneNegative xs n k → NoneNegative xs (n +ℤ pos order) k
-      → Splits order (λ j. product_over factorial_value xs (n +ℤ pos j) k) (λ j. forms_value (from_each (above_least order j) xs) n k)
-      (product_over factorial_value (carrier_up order xs) n k) (product_over factorial_value (carrier_up order xs) n (k +ℤ pos 1))
-      (forms_value (from_each (falling_up order) xs) n (k -ℤ pos 1)) (forms_value (from_each (rising_up order) xs) n k)
+module _ (order : ℕ) (p : Point) where
+  pub up_splits : (xs : List Factor) → NoneNegative xs p → NoneNegative xs (later_n p (pos order))
+      → Splits order (λ j. product_over factorial_value xs (later_n p (pos j))) (λ j. forms_value (from_each (above_least order j) xs) p)
+      (product_over factorial_value (carrier_up order xs) p) (product_over factorial_value (carrier_up order xs) (later_k p (pos 1)))
+      (forms_value (from_each (falling_up order) xs) (later_k p (negsuc 0))) (forms_value (from_each (rising_up order) xs) p)
   up_splits [] first last = splits_one order
   up_splits (x ∷ xs) (f, fs) (l, ls) =
-      splits_same order _ _ (λ j. forms_value (above_least order j x ++ from_each (above_least order j) xs) n k) _ _ _ _ _
-      (forms_value (falling_up order x ++ from_each (falling_up order) xs) n (k -ℤ pos 1)) _ (forms_value (rising_up order x ++ from_each (rising_up order) xs) n k)
-      (λ j. sym (joined_value (above_least order j x) (from_each (above_least order j) xs) n k)) refl refl
-      (sym (joined_value (falling_up order x) (from_each (falling_up order) xs) n (k -ℤ pos 1))) (sym (joined_value (rising_up order x) (from_each (rising_up order) xs) n k))
-      (splits_product order _ _ _ _ _ _ _ _ _ _ _ _ (argument_splits order x n k (least_is x.form order n k f l)) (up_splits xs fs ls))
+      splits_same order _ _ (λ j. forms_value (above_least order j x ++ from_each (above_least order j) xs) p) _ _ _ _ _
+      (forms_value (falling_up order x ++ from_each (falling_up order) xs) (later_k p (negsuc 0))) _ (forms_value (rising_up order x ++ from_each (rising_up order) xs) p)
+      (λ j. sym (joined_value (above_least order j x) (from_each (above_least order j) xs) p)) refl refl
+      (sym (joined_value (falling_up order x) (from_each (falling_up order) xs) (later_k p (negsuc 0)))) (sym (joined_value (rising_up order x) (from_each (rising_up order) xs) p))
+      (splits_product order _ _ _ _ _ _ _ _ _ _ _ _ (argument_splits order x p (least_is x.form order p f l)) (up_splits xs fs ls))
 
   pub down_splits : (xs : List Factor)
-      → Splits order (λ j. product_over inverse_factorial_value xs (n +ℤ pos j) k) (λ j. forms_value (from_each (below_greatest order j) xs) n k)
-      (product_over inverse_factorial_value (carrier_down order xs) n k) (product_over inverse_factorial_value (carrier_down order xs) n (k +ℤ pos 1))
-      (forms_value (from_each (rising_down order) xs) n (k -ℤ pos 1)) (forms_value (from_each (falling_down order) xs) n k)
+      → Splits order (λ j. product_over inverse_factorial_value xs (later_n p (pos j))) (λ j. forms_value (from_each (below_greatest order j) xs) p)
+      (product_over inverse_factorial_value (carrier_down order xs) p) (product_over inverse_factorial_value (carrier_down order xs) (later_k p (pos 1)))
+      (forms_value (from_each (rising_down order) xs) (later_k p (negsuc 0))) (forms_value (from_each (falling_down order) xs) p)
   down_splits [] = splits_one order
   down_splits (x ∷ xs) =
-      splits_same order _ _ (λ j. forms_value (below_greatest order j x ++ from_each (below_greatest order j) xs) n k) _ _ _ _ _
-      (forms_value (rising_down order x ++ from_each (rising_down order) xs) n (k -ℤ pos 1)) _ (forms_value (falling_down order x ++ from_each (falling_down order) xs) n k)
-      (λ j. sym (joined_value (below_greatest order j x) (from_each (below_greatest order j) xs) n k)) refl refl
-      (sym (joined_value (rising_down order x) (from_each (rising_down order) xs) n (k -ℤ pos 1))) (sym (joined_value (falling_down order x) (from_each (falling_down order) xs) n k))
-      (splits_product order _ _ _ _ _ _ _ _ _ _ _ _ (lower_splits order x n k) (down_splits xs))
+      splits_same order _ _ (λ j. forms_value (below_greatest order j x ++ from_each (below_greatest order j) xs) p) _ _ _ _ _
+      (forms_value (rising_down order x ++ from_each (rising_down order) xs) (later_k p (negsuc 0))) _ (forms_value (falling_down order x ++ from_each (falling_down order) xs) p)
+      (λ j. sym (joined_value (below_greatest order j x) (from_each (below_greatest order j) xs) p)) refl refl
+      (sym (joined_value (rising_down order x) (from_each (rising_down order) xs) (later_k p (negsuc 0)))) (sym (joined_value (falling_down order x) (from_each (falling_down order) xs) p))
+      (splits_product order _ _ _ _ _ _ _ _ _ _ _ _ (lower_splits order x p) (down_splits xs))
 
-  pub over_lists : (xs : List Factor) → ((j : ℕ) → j ≤ order → NoneZero xs (n +ℤ pos j) k)
-      → Splits order (λ j. inverses xs (n +ℤ pos j) k) (λ j. forms_value (from_each (counted_but order j) xs) n k)
-      (inverses (from_each (kept_over order) xs) n k) (inverses (from_each (kept_over order) xs) n (k +ℤ pos 1))
-      (forms_value (from_each (later_over order) xs) n (k -ℤ pos 1)) (forms_value (from_each (cleared_over order) xs) n k)
+  pub over_lists : (xs : List Factor) → ((j : ℕ) → j ≤ order → NoneZero xs (later_n p (pos j)))
+      → Splits order (λ j. inverses xs (later_n p (pos j))) (λ j. forms_value (from_each (counted_but order j) xs) p)
+      (inverses (from_each (kept_over order) xs) p) (inverses (from_each (kept_over order) xs) (later_k p (pos 1)))
+      (forms_value (from_each (later_over order) xs) (later_k p (negsuc 0))) (forms_value (from_each (cleared_over order) xs) p)
   over_lists [] some = splits_one order
   over_lists (x ∷ xs) some =
-      splits_same order _ _ (λ j. forms_value (counted_but order j x ++ from_each (counted_but order j) xs) n k)
-      _ (inverses (kept_over order x ++ from_each (kept_over order) xs) n k) _ (inverses (kept_over order x ++ from_each (kept_over order) xs) n (k +ℤ pos 1)) _
-      (forms_value (later_over order x ++ from_each (later_over order) xs) n (k -ℤ pos 1)) _ (forms_value (cleared_over order x ++ from_each (cleared_over order) xs) n k)
-      (λ j. sym (joined_value (counted_but order j x) (from_each (counted_but order j) xs) n k))
-      (sym (inverses_joined (kept_over order x) (from_each (kept_over order) xs) n k)) (sym (inverses_joined (kept_over order x) (from_each (kept_over order) xs) n (k +ℤ pos 1)))
-      (sym (joined_value (later_over order x) (from_each (later_over order) xs) n (k -ℤ pos 1))) (sym (joined_value (cleared_over order x) (from_each (cleared_over order) xs) n k))
-      (splits_product order _ _ _ _ _ _ _ _ _ _ _ _ (over_splits order x n k (λ j l. (some j l).0)) (over_lists xs (λ j l. (some j l).1)))
+      splits_same order _ _ (λ j. forms_value (counted_but order j x ++ from_each (counted_but order j) xs) p)
+      _ (inverses (kept_over order x ++ from_each (kept_over order) xs) p) _ (inverses (kept_over order x ++ from_each (kept_over order) xs) (later_k p (pos 1))) _
+      (forms_value (later_over order x ++ from_each (later_over order) xs) (later_k p (negsuc 0))) _ (forms_value (cleared_over order x ++ from_each (cleared_over order) xs) p)
+      (λ j. sym (joined_value (counted_but order j x) (from_each (counted_but order j) xs) p))
+      (sym (inverses_joined (kept_over order x) (from_each (kept_over order) xs) p)) (sym (inverses_joined (kept_over order x) (from_each (kept_over order) xs) (later_k p (pos 1))))
+      (sym (joined_value (later_over order x) (from_each (later_over order) xs) (later_k p (negsuc 0)))) (sym (joined_value (cleared_over order x) (from_each (cleared_over order) xs) p))
+      (splits_product order _ _ _ _ _ _ _ _ _ _ _ _ (over_splits order x p (λ j l. (some j l).0)) (over_lists xs (λ j l. (some j l).1)))
 
 -- one more form on a list, and all forms gathered
-grown_value : (f : LinearForm) (p : ℕ) (xs : List Factor) (n k : ℤ)
-    → inverses (with_factor f p xs) n k ≡ fraction_product (natural_power (inverse_of (form_value f n k)) p) (inverses xs n k)
-grown_value f p [] n k = refl
-grown_value f p (x ∷ xs) n k = by (same_form f x.form) refl (grown_value f p xs n k)
+grown_value : (f : LinearForm) (given : ℕ) (xs : List Factor) (p : Point)
+    → inverses (with_factor f given xs) p ≡ fraction_product (natural_power (inverse_of (form_value f p)) given) (inverses xs p)
+grown_value f given [] p = refl
+grown_value f given (x ∷ xs) p = by (same_form f x.form) refl (grown_value f given xs p)
   where
     by : (b : Bool) → same_form f x.form ≡ b
-        → inverses (with_factor f p xs) n k ≡ fraction_product (natural_power (inverse_of (form_value f n k)) p) (inverses xs n k)
-        → inverses (cond b (factor_with x.form (x.power + p) ∷ xs) (x ∷ with_factor f p xs)) n k
-        ≡ fraction_product (natural_power (inverse_of (form_value f n k)) p) (inverses (x ∷ xs) n k)
+        → inverses (with_factor f given xs) p ≡ fraction_product (natural_power (inverse_of (form_value f p)) given) (inverses xs p)
+        → inverses (cond b (factor_with x.form (x.power + given) ∷ xs) (x ∷ with_factor f given xs)) p
+        ≡ fraction_product (natural_power (inverse_of (form_value f p)) given) (inverses (x ∷ xs) p)
     by true e h =
-        let own = natural_power (inverse_of (form_value x.form n k)) x.power in
-        let more = natural_power (inverse_of (form_value x.form n k)) p in
-        ap (λ t. fraction_product t (inverses xs n k)) (power_of_sum (inverse_of (form_value x.form n k)) x.power p)
-        ∙ product_assoc own more (inverses xs n k) ∙ product_moved own more (inverses xs n k)
-        ∙ ap (λ g. fraction_product (natural_power (inverse_of (form_value g n k)) p) (inverses (x ∷ xs) n k)) (sym (same_form_found f x.form e))
+        let own = natural_power (inverse_of (form_value x.form p)) x.power in
+        let more = natural_power (inverse_of (form_value x.form p)) given in
+        ap (λ t. fraction_product t (inverses xs p)) (power_of_sum (inverse_of (form_value x.form p)) x.power given)
+        ∙ product_assoc own more (inverses xs p) ∙ product_moved own more (inverses xs p)
+        ∙ ap (λ g. fraction_product (natural_power (inverse_of (form_value g p)) given) (inverses (x ∷ xs) p)) (sym (same_form_found f x.form e))
     by false e h =
-        let own = natural_power (inverse_of (form_value x.form n k)) x.power in
-        ap (fraction_product own) h ∙ product_moved own (natural_power (inverse_of (form_value f n k)) p) (inverses xs n k)
+        let own = natural_power (inverse_of (form_value x.form p)) x.power in
+        ap (fraction_product own) h ∙ product_moved own (natural_power (inverse_of (form_value f p)) given) (inverses xs p)
 
-pub gathered_value : (done xs : List Factor) (n k : ℤ) → inverses (gathered_forms done xs) n k ≡ fraction_product (inverses done n k) (inverses xs n k)
-gathered_value done [] n k = sym (product_one (inverses done n k))
-gathered_value done (x ∷ xs) n k =
-    gathered_value (with_factor x.form x.power done) xs n k
-    ∙ ap (λ t. fraction_product t (inverses xs n k)) (grown_value x.form x.power done n k)
-    ∙ product_assoc (natural_power (inverse_of (form_value x.form n k)) x.power) (inverses done n k) (inverses xs n k)
-    ∙ product_moved (natural_power (inverse_of (form_value x.form n k)) x.power) (inverses done n k) (inverses xs n k)
+pub gathered_value : (done xs : List Factor) (p : Point) → inverses (gathered_forms done xs) p ≡ fraction_product (inverses done p) (inverses xs p)
+gathered_value done [] p = sym (product_one (inverses done p))
+gathered_value done (x ∷ xs) p =
+    gathered_value (with_factor x.form x.power done) xs p
+    ∙ ap (λ t. fraction_product t (inverses xs p)) (grown_value x.form x.power done p)
+    ∙ product_assoc (natural_power (inverse_of (form_value x.form p)) x.power) (inverses done p) (inverses xs p)
+    ∙ product_moved (natural_power (inverse_of (form_value x.form p)) x.power) (inverses done p) (inverses xs p)

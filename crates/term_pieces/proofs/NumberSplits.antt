@@ -9,6 +9,7 @@ use Rattle.poly_laws.specs.Shift.{poly_shift}
 use Rattle.poly_laws.specs.Values.{horner, value_at, level}
 use Rattle.poly_laws.proofs.Keeps.{of_list, value_at_keeps}
 use Rattle.poly_laws.proofs.ShiftLaws.{value_at_shift}
+use Rattle.hypergeometric.specs.Point.{Point, values_in_n, later_n, later_k}
 use Rattle.hypergeometric.specs.Fraction.{Fraction, IsDefined, ◌≈◌, of_whole, fraction_product, fraction_inverse, natural_power, whole_power}
 use Rattle.hypergeometric.specs.ProperTerm.{IsNonzero, ProperTerm, HasFractions, poly_value}
 use Rattle.hypergeometric.proofs.Definedness.{natural_power_defined, whole_power_defined}
@@ -27,10 +28,10 @@ horner_mapped : (f g : Meaning → ℤ) (h : Meaning → Meaning) → ((m : Mean
 horner_mapped f g h e k [] = refl
 horner_mapped f g h e k (x ∷ xs) = ap (λ t. t +ℤ k *ℤ horner f k (map h xs)) (e x) ∙ ap (λ t. g x +ℤ k *ℤ t) (horner_mapped f g h e k xs)
 
-pub later_poly_value : (p : Meaning) (j : ℕ) (n k : ℤ) → poly_value (poly_at_later_n p j) n k ≡ poly_value p (n +ℤ pos j) k
-later_poly_value p j n k =
-    of_list (level 1).ops (value_at (n ∷ [])) (value_at_keeps (n ∷ [])) k (map (poly_shift (level 0).ops (pos j)) (items p))
-    ∙ horner_mapped (value_at (n ∷ [])) (value_at ((n +ℤ pos j) ∷ [])) (poly_shift (level 0).ops (pos j)) (λ m. value_at_shift n (pos j) [] m) k (items p)
+pub later_poly_value : (poly : Meaning) (j : ℕ) (p : Point) → poly_value (poly_at_later_n poly j) p ≡ poly_value poly (later_n p (pos j))
+later_poly_value poly j p =
+    of_list (level 1).ops (value_at (values_in_n p)) (value_at_keeps (values_in_n p)) p.k (map (poly_shift (level 0).ops (pos j)) (items poly))
+    ∙ horner_mapped (value_at (values_in_n p)) (value_at ((p.n +ℤ pos j) ∷ [])) (poly_shift (level 0).ops (pos j)) (λ m. value_at_shift p.n (pos j) [] m) p.k (items poly)
 
 -- a whole power one higher, and j higher
 pub next_power : (f : Fraction) (z : ℤ) → IsNonzero f → whole_power f (z +ℤ pos 1) ≈ fraction_product f (whole_power f z)
@@ -62,7 +63,7 @@ unfolding pow lib.IntN.one
 power_parts f zero = refl
 power_parts f (suc j) = ap (fraction_product f) (power_parts f j) ∙ fraction_same (sym (pow-succ' f.top j)) (sym (pow-succ' f.bottom j))
 
-module _ (f : ProperTerm) (order : ℕ) (n k : ℤ) (parts : HasFractions f) where
+module _ (f : ProperTerm) (order : ℕ) (p : Point) (parts : HasFractions f) where
   abbrev x_v : ℤ
   x_v = pow f.n_base.bottom order
 
@@ -71,10 +72,10 @@ module _ (f : ProperTerm) (order : ℕ) (n k : ℤ) (parts : HasFractions f) whe
   below = record { top = pos 1; bottom = x_v }
 
   abbrev at_n : Fraction
-  at_n = whole_power f.n_base n
+  at_n = whole_power f.n_base p.n
 
   abbrev at_k : Fraction
-  at_k = whole_power f.k_base k
+  at_k = whole_power f.k_base p.k
 
   x_v_some : x_v ≢ pos 0
   x_v_some e =
@@ -101,7 +102,7 @@ module _ (f : ProperTerm) (order : ℕ) (n k : ℤ) (parts : HasFractions f) whe
   common_number = fraction_product f.scale (fraction_product below (fraction_product at_n at_k))
 
   bases_defined : IsDefined (fraction_product at_n at_k)
-  bases_defined = product_not_zero at_n.bottom at_k.bottom (whole_power_defined f.n_base n parts.n_base) (whole_power_defined f.k_base k parts.k_base)
+  bases_defined = product_not_zero at_n.bottom at_k.bottom (whole_power_defined f.n_base p.n parts.n_base) (whole_power_defined f.k_base p.k parts.k_base)
 
   tops_grouped : (s t u v w : Fraction)
       → fraction_product s (fraction_product (fraction_product (fraction_product t u) v) w)
@@ -112,12 +113,12 @@ module _ (f : ProperTerm) (order : ℕ) (n k : ℤ) (parts : HasFractions f) whe
       moved a b c d e = ring_z (a ∷ b ∷ c ∷ d ∷ e ∷ []) (search reading_z depth 40 fits 20000) refl
 
   number_tops : (j : ℕ) → j ≤ order
-      → fraction_product f.scale (fraction_product (whole_power f.n_base (n +ℤ pos j)) at_k) ≈ times_common (top_number f order j) common_number
+      → fraction_product f.scale (fraction_product (whole_power f.n_base (p.n +ℤ pos j)) at_k) ≈ times_common (top_number f order j) common_number
   number_tops j l =
-      let defined_n = whole_power_defined f.n_base n parts.n_base in
-      let defined_k = whole_power_defined f.k_base k parts.k_base in
-      let later = equal_chain (later_power f.n_base n j parts.n_base) (equal_products (base_power j l) (equal_to_itself at_n defined_n)) in
-      subst (λ z. fraction_product f.scale (fraction_product (whole_power f.n_base (n +ℤ pos j)) at_k) ≈ z)
+      let defined_n = whole_power_defined f.n_base p.n parts.n_base in
+      let defined_k = whole_power_defined f.k_base p.k parts.k_base in
+      let later = equal_chain (later_power f.n_base p.n j parts.n_base) (equal_products (base_power j l) (equal_to_itself at_n defined_n)) in
+      subst (λ z. fraction_product f.scale (fraction_product (whole_power f.n_base (p.n +ℤ pos j)) at_k) ≈ z)
       (tops_grouped f.scale (of_whole (top_number f order j)) below at_n at_k)
       (equal_products (equal_to_itself f.scale parts.scale.bottom) (equal_products later (equal_to_itself at_k defined_k)))
 
@@ -164,39 +165,39 @@ module _ (f : ProperTerm) (order : ℕ) (n k : ℤ) (parts : HasFractions f) whe
       moved : (a b c d e : ℤ) → (a *ℤ b) *ℤ (d *ℤ (c *ℤ e)) ≡ (a *ℤ c) *ℤ (b *ℤ (d *ℤ e))
       moved a b c d e = ring_z (a ∷ b ∷ c ∷ d ∷ e ∷ []) (search reading_z depth 40 fits 20000) refl
 
-  number_next : fraction_product carrier_scale (fraction_product at_n (whole_power f.k_base (k +ℤ pos 1))) ≈ times_common f.k_base.top common_number
+  number_next : fraction_product carrier_scale (fraction_product at_n (whole_power f.k_base (p.k +ℤ pos 1))) ≈ times_common f.k_base.top common_number
   number_next =
       let rest = fraction_product (fraction_product f.scale below) (fraction_product at_n at_k) in
       let defined : IsDefined rest = product_not_zero (f.scale.bottom *ℤ x_v) (fraction_product at_n at_k).bottom
       (product_not_zero f.scale.bottom x_v parts.scale.bottom x_v_some) bases_defined in
-      let there = equal_products scale_is (equal_products (equal_to_itself at_n (whole_power_defined f.n_base n parts.n_base))
-      (next_power f.k_base k parts.k_base)) in
-      let grouped = subst (λ z. fraction_product carrier_scale (fraction_product at_n (whole_power f.k_base (k +ℤ pos 1))) ≈ z)
+      let there = equal_products scale_is (equal_products (equal_to_itself at_n (whole_power_defined f.n_base p.n parts.n_base))
+      (next_power f.k_base p.k parts.k_base)) in
+      let grouped = subst (λ z. fraction_product carrier_scale (fraction_product at_n (whole_power f.k_base (p.k +ℤ pos 1))) ≈ z)
       (next_grouped (of_whole f.k_base.bottom) (fraction_product f.scale below) f.k_base at_n at_k) there in
-      subst (λ z. fraction_product carrier_scale (fraction_product at_n (whole_power f.k_base (k +ℤ pos 1))) ≈ times_common f.k_base.top z)
+      subst (λ z. fraction_product carrier_scale (fraction_product at_n (whole_power f.k_base (p.k +ℤ pos 1))) ≈ times_common f.k_base.top z)
       (product_assoc f.scale below (fraction_product at_n at_k))
       (equal_chain grouped (equal_products numerator (equal_to_itself rest defined)))
 
-  pub number_splits : Splits order (λ j. fraction_product f.scale (fraction_product (whole_power f.n_base (n +ℤ pos j)) at_k)) (top_number f order)
+  pub number_splits : Splits order (λ j. fraction_product f.scale (fraction_product (whole_power f.n_base (p.n +ℤ pos j)) at_k)) (top_number f order)
       (fraction_product carrier_scale (fraction_product at_n at_k))
-      (fraction_product carrier_scale (fraction_product at_n (whole_power f.k_base (k +ℤ pos 1)))) f.k_base.bottom f.k_base.top
+      (fraction_product carrier_scale (fraction_product at_n (whole_power f.k_base (p.k +ℤ pos 1)))) f.k_base.bottom f.k_base.top
   number_splits = record { common = common_number; tops = number_tops; carrier_here = number_here; carrier_next = number_next }
 
-  unit_value : (l : ℤ) → poly_value (level 2).ops.unit n l ≡ pos 1
-  unit_value l = (value_at_keeps (l ∷ n ∷ [])).unit
+  unit_value : (l : ℤ) → poly_value (level 2).ops.unit p.n l ≡ pos 1
+  unit_value l = (value_at_keeps (l ∷ p.n ∷ [])).unit
 
   whole_is : (x : ℤ) → of_whole x ≈ times_common x (of_whole (pos 1))
   whole_is x = subst (λ z. of_whole x ≈ z) (sym (product_one (of_whole x))) (equal_to_itself (of_whole x) one_not_zero)
 
-  unit_is : (l : ℤ) → of_whole (poly_value (level 2).ops.unit n l) ≈ times_common (pos 1) (of_whole (pos 1))
+  unit_is : (l : ℤ) → of_whole (poly_value (level 2).ops.unit p.n l) ≈ times_common (pos 1) (of_whole (pos 1))
   unit_is l = subst (λ z. of_whole z ≈ times_common (pos 1) (of_whole (pos 1))) (sym (unit_value l)) (whole_is (pos 1))
 
-  pub poly_splits : Splits order (λ j. of_whole (poly_value f.poly (n +ℤ pos j) k)) (λ j. poly_value (poly_at_later_n f.poly j) n k)
-      (of_whole (poly_value (level 2).ops.unit n k)) (of_whole (poly_value (level 2).ops.unit n (k +ℤ pos 1))) (pos 1) (pos 1)
+  pub poly_splits : Splits order (λ j. of_whole (poly_value f.poly (later_n p (pos j)))) (λ j. poly_value (poly_at_later_n f.poly j) p)
+      (of_whole (poly_value (level 2).ops.unit p)) (of_whole (poly_value (level 2).ops.unit (later_k p (pos 1)))) (pos 1) (pos 1)
   poly_splits = record {
     common = of_whole (pos 1);
-    tops = λ j l. subst (λ z. of_whole (poly_value f.poly (n +ℤ pos j) k) ≈ times_common z (of_whole (pos 1))) (sym (later_poly_value f.poly j n k))
-        (whole_is (poly_value f.poly (n +ℤ pos j) k));
-    carrier_here = unit_is k;
-    carrier_next = unit_is (k +ℤ pos 1);
+    tops = λ j l. subst (λ z. of_whole (poly_value f.poly (later_n p (pos j))) ≈ times_common z (of_whole (pos 1))) (sym (later_poly_value f.poly j p))
+        (whole_is (poly_value f.poly (later_n p (pos j))));
+    carrier_here = unit_is p.k;
+    carrier_next = unit_is (p.k +ℤ pos 1);
   }

@@ -6,6 +6,7 @@ use Rattle.std.proofs.lemmas.Int.{ints}
 use Rattle.std.proofs.Math.IntN.{pow}
 use Rattle.std.specs.Prelude.{ℤ, pos, ◌+ℤ◌, ◌-ℤ◌, ◌*ℤ◌, unsigned_abs, cond}
 use Rattle.ring_solver.proofs.Read.{ring_z, reading_z}
+use Rattle.hypergeometric.specs.Point.{Point, later_k}
 use Rattle.hypergeometric.specs.Fraction.{Fraction, IsDefined, ◌≈◌, of_whole, fraction_product, fraction_inverse, natural_power}
 use Rattle.hypergeometric.specs.LinearForm.{Factor, form_value, forms_value, product_over}
 use Rattle.hypergeometric.specs.ProperTerm.{NoneZero}
@@ -24,8 +25,8 @@ abbrev pub inverse_of : ℤ → Fraction
 inverse_of z = fraction_inverse (of_whole z)
 
 -- one over all forms of a list
-abbrev pub inverses : List Factor → ℤ → ℤ → Fraction
-inverses xs n k = product_over inverse_of xs n k
+abbrev pub inverses : List Factor → Point → Fraction
+inverses xs p = product_over inverse_of xs p
 
 inverse_is_defined : (z : ℤ) → z ≢ pos 0 → IsDefined (inverse_of z)
 inverse_is_defined z h e = product_not_zero z (pos 1) h one_not_zero e
@@ -78,37 +79,37 @@ cleared z e u c r h p =
     subst (λ t. t ≈ times_common (pow z e *ℤ r) (fraction_product (natural_power (inverse_of z) e) c)) (one_product u)
     (multiplied (of_whole (pos 1)) u (natural_power (inverse_of z) e) c (pow z e) r (own_powers z e h) p)
 
-module _ (n k : ℤ) where
+module _ (p : Point) where
   -- what the carrier has of a list of denominators at k
-  pub carrier_here : (ys : List Factor) → NoneZero ys n k
-      → inverses (from_each without_k ys) n k
-      ≈ times_common (forms_value (from_each with_k (at_next_k ys)) n (k -ℤ pos 1)) (inverses ys n k)
+  pub carrier_here : (ys : List Factor) → NoneZero ys p
+      → inverses (from_each without_k ys) p
+      ≈ times_common (forms_value (from_each with_k (at_next_k ys)) (later_k p (negsuc 0))) (inverses ys p)
   carrier_here [] h = itself (of_whole (pos 1)) (equal_to_itself (of_whole (pos 1)) one_not_zero)
   carrier_here (y ∷ ys) (h, hs) = by (is_zero y.form.k_slope) (carrier_here ys hs)
     where
-      there : form_value (at_later_k y.form (pos 1)) n (k -ℤ pos 1) ≡ form_value y.form n k
-      there = later_k_value y.form (pos 1) n (k -ℤ pos 1) ∙ ap (form_value y.form n) (omega (arith, ints))
+      there : form_value (at_later_k y.form (pos 1)) (later_k p (negsuc 0)) ≡ form_value y.form p
+      there = later_k_value y.form (pos 1) (later_k p (negsuc 0)) ∙ ap (form_value y.form p.n) (omega (arith, ints))
 
-      by : (b : Bool) → inverses (from_each without_k ys) n k ≈ times_common (forms_value (from_each with_k (at_next_k ys)) n (k -ℤ pos 1)) (inverses ys n k)
-          → inverses (cond b (y ∷ []) [] ++ from_each without_k ys) n k
-          ≈ times_common (forms_value (cond b [] (factor_with (at_later_k y.form (pos 1)) y.power ∷ []) ++ from_each with_k (at_next_k ys)) n (k -ℤ pos 1))
-          (inverses (y ∷ ys) n k)
-      by true p = kept_on_both (form_value y.form n k) y.power (inverses (from_each without_k ys) n k) (inverses ys n k)
-          (forms_value (from_each with_k (at_next_k ys)) n (k -ℤ pos 1)) h p
-      by false p =
-          subst (λ z. inverses (from_each without_k ys) n k
-          ≈ times_common (pow z y.power *ℤ forms_value (from_each with_k (at_next_k ys)) n (k -ℤ pos 1)) (inverses (y ∷ ys) n k)) (sym there)
-          (cleared (form_value y.form n k) y.power (inverses (from_each without_k ys) n k) (inverses ys n k)
-          (forms_value (from_each with_k (at_next_k ys)) n (k -ℤ pos 1)) h p)
+      by : (b : Bool) → inverses (from_each without_k ys) p ≈ times_common (forms_value (from_each with_k (at_next_k ys)) (later_k p (negsuc 0))) (inverses ys p)
+          → inverses (cond b (y ∷ []) [] ++ from_each without_k ys) p
+          ≈ times_common (forms_value (cond b [] (factor_with (at_later_k y.form (pos 1)) y.power ∷ []) ++ from_each with_k (at_next_k ys)) (later_k p (negsuc 0)))
+          (inverses (y ∷ ys) p)
+      by true given = kept_on_both (form_value y.form p) y.power (inverses (from_each without_k ys) p) (inverses ys p)
+          (forms_value (from_each with_k (at_next_k ys)) (later_k p (negsuc 0))) h given
+      by false given =
+          subst (λ z. inverses (from_each without_k ys) p
+          ≈ times_common (pow z y.power *ℤ forms_value (from_each with_k (at_next_k ys)) (later_k p (negsuc 0))) (inverses (y ∷ ys) p)) (sym there)
+          (cleared (form_value y.form p) y.power (inverses (from_each without_k ys) p) (inverses ys p)
+          (forms_value (from_each with_k (at_next_k ys)) (later_k p (negsuc 0))) h given)
 
   -- and at k + 1
-  pub carrier_next : (ys : List Factor) → NoneZero ys n k
-      → inverses (from_each without_k ys) n (k +ℤ pos 1) ≈ times_common (forms_value (from_each with_k ys) n k) (inverses ys n k)
+  pub carrier_next : (ys : List Factor) → NoneZero ys p
+      → inverses (from_each without_k ys) (later_k p (pos 1)) ≈ times_common (forms_value (from_each with_k ys) p) (inverses ys p)
   carrier_next [] h = itself (of_whole (pos 1)) (equal_to_itself (of_whole (pos 1)) one_not_zero)
   carrier_next (y ∷ ys) (h, hs) = by (is_zero y.form.k_slope) refl (carrier_next ys hs)
     where
-      same : is_zero y.form.k_slope ≡ true → form_value y.form n (k +ℤ pos 1) ≡ form_value y.form n k
-      same e = without (y.form.n_slope *ℤ n) y.form.k_slope y.form.offset k (slope y.form.k_slope e)
+      same : is_zero y.form.k_slope ≡ true → form_value y.form (later_k p (pos 1)) ≡ form_value y.form p
+      same e = without (y.form.n_slope *ℤ p.n) y.form.k_slope y.form.offset p.k (slope y.form.k_slope e)
         where
           slope : (t : ℤ) → is_zero t ≡ true → t ≡ pos 0
           slope t e = omega (arith, ints, eqb-true (unsigned_abs t) 0 e)
@@ -120,13 +121,13 @@ module _ (n k : ℤ) where
               zeros a o k = ring_z (a ∷ o ∷ k ∷ []) (search reading_z depth 40 fits 20000) refl
 
       by : (b : Bool) → is_zero y.form.k_slope ≡ b
-          → inverses (from_each without_k ys) n (k +ℤ pos 1) ≈ times_common (forms_value (from_each with_k ys) n k) (inverses ys n k)
-          → inverses (cond b (y ∷ []) [] ++ from_each without_k ys) n (k +ℤ pos 1)
-          ≈ times_common (forms_value (cond b [] (y ∷ []) ++ from_each with_k ys) n k) (inverses (y ∷ ys) n k)
-      by true e p =
-          subst (λ z. fraction_product (natural_power (inverse_of z) y.power) (inverses (from_each without_k ys) n (k +ℤ pos 1))
-          ≈ times_common (forms_value (from_each with_k ys) n k) (inverses (y ∷ ys) n k)) (sym (same e))
-          (kept_on_both (form_value y.form n k) y.power (inverses (from_each without_k ys) n (k +ℤ pos 1)) (inverses ys n k)
-          (forms_value (from_each with_k ys) n k) h p)
-      by false e p = cleared (form_value y.form n k) y.power (inverses (from_each without_k ys) n (k +ℤ pos 1)) (inverses ys n k)
-          (forms_value (from_each with_k ys) n k) h p
+          → inverses (from_each without_k ys) (later_k p (pos 1)) ≈ times_common (forms_value (from_each with_k ys) p) (inverses ys p)
+          → inverses (cond b (y ∷ []) [] ++ from_each without_k ys) (later_k p (pos 1))
+          ≈ times_common (forms_value (cond b [] (y ∷ []) ++ from_each with_k ys) p) (inverses (y ∷ ys) p)
+      by true e given =
+          subst (λ z. fraction_product (natural_power (inverse_of z) y.power) (inverses (from_each without_k ys) (later_k p (pos 1)))
+          ≈ times_common (forms_value (from_each with_k ys) p) (inverses (y ∷ ys) p)) (sym (same e))
+          (kept_on_both (form_value y.form p) y.power (inverses (from_each without_k ys) (later_k p (pos 1))) (inverses ys p)
+          (forms_value (from_each with_k ys) p) h given)
+      by false e given = cleared (form_value y.form p) y.power (inverses (from_each without_k ys) (later_k p (pos 1))) (inverses ys p)
+          (forms_value (from_each with_k ys) p) h given

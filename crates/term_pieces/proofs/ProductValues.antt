@@ -6,6 +6,7 @@ use Rattle.std.proofs.Math.IntN.{pow, pow-succ'}
 use Rattle.std.specs.List.{AllByRecursion}
 use Rattle.std.specs.Prelude.{ℤ, pos, ◌+ℤ◌, ◌*ℤ◌, cond}
 use Rattle.ring_solver.proofs.Read.{ring_z, reading_z}
+use Rattle.hypergeometric.specs.Point.{Point, values}
 use Rattle.hypergeometric.specs.LinearForm.{LinearForm, Factor, FactorList, form_value, forms_value, factor_list_value}
 use Rattle.hypergeometric.specs.FormOrder.{IsBefore, IsSorted}
 use Rattle.lin_form.specs.FactorLists.{same_form, power_of}
@@ -39,14 +40,14 @@ unfolding pow lib.IntN.one
 pow_of_zero z = refl
 
 -- a form is its content times its primitive form
-content_value : (f : LinearForm) (n k : ℤ) → form_value f n k ≡ content_of_form f *ℤ form_value (primitive_form f) n k
-content_value f n k = ap (λ g. form_value g n k) (sym (content_multiple f)) ∙ times (content_of_form f) (primitive_form f)
+content_value : (f : LinearForm) (p : Point) → form_value f p ≡ content_of_form f *ℤ form_value (primitive_form f) p
+content_value f p = ap (λ g. form_value g p) (sym (content_multiple f)) ∙ times (content_of_form f) (primitive_form f)
   where
     spread : (c a b o n k : ℤ) → ((c *ℤ a) *ℤ n +ℤ (c *ℤ b) *ℤ k) +ℤ c *ℤ o ≡ c *ℤ ((a *ℤ n +ℤ b *ℤ k) +ℤ o)
     spread c a b o n k = ring_z (c ∷ a ∷ b ∷ o ∷ n ∷ k ∷ []) (search reading_z depth 40 fits 20000) refl
 
-    times : (c : ℤ) (g : LinearForm) → form_value (multiple c g) n k ≡ c *ℤ form_value g n k
-    times c g = spread c g.n_slope g.k_slope g.offset n k
+    times : (c : ℤ) (g : LinearForm) → form_value (multiple c g) p ≡ c *ℤ form_value g p
+    times c g = spread c g.n_slope g.k_slope g.offset p.n p.k
 
 -- the list without the forms whose primitive form this is
 abbrev without_form : LinearForm → List Factor → List Factor
@@ -77,27 +78,27 @@ power_without f g (x ∷ xs) other = by (same_form f (primitive_form x.form)) re
         h ∙ sym (ap (λ b. cond b x.power 0 + power_among g xs) none ∙ omega arith)
     by false e h = ap (λ t. cond (same_form g (primitive_form x.form)) x.power 0 + t) h
 
-module _ (n k : ℤ) where
+module _ (p : Point) where
   -- the product of the primitive forms
   abbrev primitives_value : List Factor → ℤ
   primitives_value [] = pos 1
-  primitives_value (x ∷ xs) = pow (form_value (primitive_form x.form) n k) x.power *ℤ primitives_value xs
+  primitives_value (x ∷ xs) = pow (form_value (primitive_form x.form) p) x.power *ℤ primitives_value xs
 
-  by_contents : (xs : List Factor) → forms_value xs n k ≡ contents_of xs *ℤ primitives_value xs
+  by_contents : (xs : List Factor) → forms_value xs p ≡ contents_of xs *ℤ primitives_value xs
   by_contents [] = refl
   by_contents (x ∷ xs) =
-      ap (λ t. pow t x.power *ℤ forms_value xs n k) (content_value x.form n k)
-      ∙ ap (λ t. t *ℤ forms_value xs n k) (pow_of_product (content_of_form x.form) (form_value (primitive_form x.form) n k) x.power)
-      ∙ ap (λ t. (pow (content_of_form x.form) x.power *ℤ pow (form_value (primitive_form x.form) n k) x.power) *ℤ t) (by_contents xs)
-      ∙ exchange (pow (content_of_form x.form) x.power) (pow (form_value (primitive_form x.form) n k) x.power) (contents_of xs) (primitives_value xs)
+      ap (λ t. pow t x.power *ℤ forms_value xs p) (content_value x.form p)
+      ∙ ap (λ t. t *ℤ forms_value xs p) (pow_of_product (content_of_form x.form) (form_value (primitive_form x.form) p) x.power)
+      ∙ ap (λ t. (pow (content_of_form x.form) x.power *ℤ pow (form_value (primitive_form x.form) p) x.power) *ℤ t) (by_contents xs)
+      ∙ exchange (pow (content_of_form x.form) x.power) (pow (form_value (primitive_form x.form) p) x.power) (contents_of xs) (primitives_value xs)
     where
       exchange : (a b c d : ℤ) → (a *ℤ b) *ℤ (c *ℤ d) ≡ (a *ℤ c) *ℤ (b *ℤ d)
       exchange a b c d = ring_z (a ∷ b ∷ c ∷ d ∷ []) (search reading_z depth 40 fits 20000) refl
 
   -- one form taken out, with all its powers
   taken_out : (f : LinearForm) (xs : List Factor)
-      → primitives_value xs ≡ pow (form_value f n k) (power_among f xs) *ℤ primitives_value (without_form f xs)
-  taken_out f [] = ap (λ t. t *ℤ pos 1) (sym (pow_of_zero (form_value f n k)))
+      → primitives_value xs ≡ pow (form_value f p) (power_among f xs) *ℤ primitives_value (without_form f xs)
+  taken_out f [] = ap (λ t. t *ℤ pos 1) (sym (pow_of_zero (form_value f p)))
   taken_out f (x ∷ xs) = by (same_form f (primitive_form x.form)) refl (taken_out f xs)
     where
       grouped : (a b c : ℤ) → a *ℤ (b *ℤ c) ≡ (a *ℤ b) *ℤ c
@@ -107,19 +108,19 @@ module _ (n k : ℤ) where
       moved a b c = ring_z (a ∷ b ∷ c ∷ []) (search reading_z depth 40 fits 20000) refl
 
       by : (b : Bool) → same_form f (primitive_form x.form) ≡ b
-          → primitives_value xs ≡ pow (form_value f n k) (power_among f xs) *ℤ primitives_value (without_form f xs)
-          → pow (form_value (primitive_form x.form) n k) x.power *ℤ primitives_value xs
-          ≡ pow (form_value f n k) (cond b x.power 0 + power_among f xs) *ℤ primitives_value (cond b (without_form f xs) (x ∷ without_form f xs))
+          → primitives_value xs ≡ pow (form_value f p) (power_among f xs) *ℤ primitives_value (without_form f xs)
+          → pow (form_value (primitive_form x.form) p) x.power *ℤ primitives_value xs
+          ≡ pow (form_value f p) (cond b x.power 0 + power_among f xs) *ℤ primitives_value (cond b (without_form f xs) (x ∷ without_form f xs))
       by true e h =
-          ap (λ g. pow (form_value g n k) x.power *ℤ primitives_value xs) (sym (same_form_found f (primitive_form x.form) e))
-          ∙ ap (λ t. pow (form_value f n k) x.power *ℤ t) h
-          ∙ grouped (pow (form_value f n k) x.power) (pow (form_value f n k) (power_among f xs)) (primitives_value (without_form f xs))
-          ∙ ap (λ t. t *ℤ primitives_value (without_form f xs)) (sym (pow_of_sum (form_value f n k) x.power (power_among f xs)))
+          ap (λ g. pow (form_value g p) x.power *ℤ primitives_value xs) (sym (same_form_found f (primitive_form x.form) e))
+          ∙ ap (λ t. pow (form_value f p) x.power *ℤ t) h
+          ∙ grouped (pow (form_value f p) x.power) (pow (form_value f p) (power_among f xs)) (primitives_value (without_form f xs))
+          ∙ ap (λ t. t *ℤ primitives_value (without_form f xs)) (sym (pow_of_sum (form_value f p) x.power (power_among f xs)))
       by false e h =
           let same : power_among f xs ≡ 0 + power_among f xs = omega arith in
-          ap (λ t. pow (form_value (primitive_form x.form) n k) x.power *ℤ t) h
-          ∙ moved (pow (form_value (primitive_form x.form) n k) x.power) (pow (form_value f n k) (power_among f xs)) (primitives_value (without_form f xs))
-          ∙ ap (λ p. pow (form_value f n k) p *ℤ (pow (form_value (primitive_form x.form) n k) x.power *ℤ primitives_value (without_form f xs))) same
+          ap (λ t. pow (form_value (primitive_form x.form) p) x.power *ℤ t) h
+          ∙ moved (pow (form_value (primitive_form x.form) p) x.power) (pow (form_value f p) (power_among f xs)) (primitives_value (without_form f xs))
+          ∙ ap (λ given. pow (form_value f p) given *ℤ (pow (form_value (primitive_form x.form) p) x.power *ℤ primitives_value (without_form f xs))) same
 
   -- where no form has a power
   nothing : (xs : List Factor) → ((f : LinearForm) → power_among f xs ≡ 0) → primitives_value xs ≡ pos 1
@@ -129,8 +130,8 @@ module _ (n k : ℤ) where
       let both = ap (λ b. cond b x.power 0 + power_among (primitive_form x.form) xs) (sym own) ∙ h (primitive_form x.form) in
       let none : x.power ≡ 0 = omega (arith, both) in
       let rest = nothing xs (λ f. omega (arith, h f)) in
-      ap (λ p. pow (form_value (primitive_form x.form) n k) p *ℤ primitives_value xs) none
-      ∙ ap (λ t. t *ℤ primitives_value xs) (pow_of_zero (form_value (primitive_form x.form) n k)) ∙ ap (λ t. pos 1 *ℤ t) rest
+      ap (λ given. pow (form_value (primitive_form x.form) p) given *ℤ primitives_value xs) none
+      ∙ ap (λ t. t *ℤ primitives_value xs) (pow_of_zero (form_value (primitive_form x.form) p)) ∙ ap (λ t. pos 1 *ℤ t) rest
 
 before_itself : (f : LinearForm) → ¬ IsBefore f f
 before_itself f (inl h) = omega (arith, ints, h)
@@ -145,14 +146,14 @@ not_among f (y ∷ ys) (h, hs) = by (same_form f y.form) refl (not_among f ys hs
     by true e none = absurd (before_itself f (subst (IsBefore f) (sym (same_form_found f y.form e)) h))
     by false e none = none
 
-module _ (n k : ℤ) where
+module _ (p : Point) where
   sorted_value : (ys forms : List Factor) → IsSorted ys → ((f : LinearForm) → power_of f ys ≡ power_among f forms)
-      → forms_value ys n k ≡ primitives_value n k forms
-  sorted_value [] forms sorted h = sym (nothing n k forms (λ f. sym (h f)))
+      → forms_value ys p ≡ primitives_value p forms
+  sorted_value [] forms sorted h = sym (nothing p forms (λ f. sym (h f)))
   sorted_value (y ∷ ys) forms (first, sorted) h =
-      ap (λ t. pow (form_value y.form n k) y.power *ℤ t) (sorted_value ys (without_form y.form forms) sorted left)
-      ∙ ap (λ p. pow (form_value y.form n k) p *ℤ primitives_value n k (without_form y.form forms)) own
-      ∙ sym (taken_out n k y.form forms)
+      ap (λ t. pow (form_value y.form p) y.power *ℤ t) (sorted_value ys (without_form y.form forms) sorted left)
+      ∙ ap (λ given. pow (form_value y.form p) given *ℤ primitives_value p (without_form y.form forms)) own
+      ∙ sym (taken_out p y.form forms)
     where
       own : y.power ≡ power_among y.form forms
       own = ap (λ b. cond b y.power (power_of y.form ys)) (sym (same_form_itself y.form y.form refl)) ∙ h y.form
@@ -169,11 +170,11 @@ module _ (n k : ℤ) where
               ap (λ b. cond b y.power (power_of f ys)) (sym e) ∙ h f ∙ sym (power_without y.form f forms (λ q. not_same f y.form e (sym q)))
 
   pub product_value : (l : FactorList) (number : ℤ) (forms : List Factor) → IsProductOf l number forms
-      → factor_list_value l n k ≡ number *ℤ forms_value forms n k
+      → factor_list_value l p ≡ number *ℤ forms_value forms p
   product_value l number forms is =
-      ap (λ s. s *ℤ forms_value l.factors n k) is.scale
+      ap (λ s. s *ℤ forms_value l.factors p) is.scale
       ∙ ap (λ t. (number *ℤ contents_of forms) *ℤ t) (sorted_value l.factors forms is.sorted is.powers)
-      ∙ grouped number (contents_of forms) (primitives_value n k forms) ∙ ap (λ t. number *ℤ t) (sym (by_contents n k forms))
+      ∙ grouped number (contents_of forms) (primitives_value p forms) ∙ ap (λ t. number *ℤ t) (sym (by_contents p forms))
     where
       grouped : (a b c : ℤ) → (a *ℤ b) *ℤ c ≡ a *ℤ (b *ℤ c)
       grouped a b c = ring_z (a ∷ b ∷ c ∷ []) (search reading_z depth 40 fits 20000) refl

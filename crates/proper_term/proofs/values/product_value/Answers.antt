@@ -45,44 +45,44 @@ times_factors-requires-clause-running c =
 pub returns-clause-value : goal.returns-clause-value
 returns-clause-value c =
     let f = term_of c.args.term.now in
-    let n = c.args.point.n in
-    let k = c.args.point.k in
+    let p.n = c.args.point.n in
+    let p.k = c.args.point.k in
     let rest : GivesRun fraction_of (whole_fraction (fraction_of c.in_ok-running.running))
-    (of_whole (poly_value f.poly n k) ∷ base_power f.n_base n ∷ base_power f.k_base k ∷ divisors f.over n k) c.times_factors.result =
+    (of_whole (poly_value f.poly p) ∷ base_power f.n_base p.n ∷ base_power f.k_base p.k ∷ divisors f.over p) c.times_factors.result =
     subst (λ (z : ℤ). GivesRun fraction_of (whole_fraction (fraction_of c.in_ok-running.running))
-    (of_whole z ∷ base_power f.n_base n ∷ base_power f.k_base k ∷ divisors f.over n k) c.times_factors.result) c.in_ok-poly.ensures.value
+    (of_whole z ∷ base_power f.n_base p.n ∷ base_power f.k_base p.k ∷ divisors f.over p) c.times_factors.result) c.in_ok-poly.ensures.value
     c.times_factors.ensures.run in
-    let run = run_then fraction_of f.scale (factorial_factors f n k) (whole_fraction (fraction_of c.in_ok-running.running))
-    (of_whole (poly_value f.poly n k) ∷ base_power f.n_base n ∷ base_power f.k_base k ∷ divisors f.over n k) c.times_factors.result
+    let run = run_then fraction_of f.scale (factorial_factors f p) (whole_fraction (fraction_of c.in_ok-running.running))
+    (of_whole (poly_value f.poly p) ∷ base_power f.n_base p.n ∷ base_power f.k_base p.k ∷ divisors f.over p) c.times_factors.result
     c.in_ok-running.ensures.run rest in
-    value_of_run fraction_of f n k c.args.term.now.proper c.times_factors.result c.requires.defined c.requires.down run
+    value_of_run fraction_of f p c.args.term.now.proper c.times_factors.result c.requires.defined c.requires.down run
 
 pub returns-clause-lowest : goal.returns-clause-lowest
 returns-clause-lowest c =
     let f = term_of c.args.term.now in
-    let n = c.args.point.n in
-    let k = c.args.point.k in
+    let p.n = c.args.point.n in
+    let p.k = c.args.point.k in
     let rest : GivesRun fraction_of (whole_fraction (fraction_of c.in_ok-running.running))
-    (of_whole (poly_value f.poly n k) ∷ base_power f.n_base n ∷ base_power f.k_base k ∷ divisors f.over n k) c.times_factors.result =
+    (of_whole (poly_value f.poly p) ∷ base_power f.n_base p.n ∷ base_power f.k_base p.k ∷ divisors f.over p) c.times_factors.result =
     subst (λ (z : ℤ). GivesRun fraction_of (whole_fraction (fraction_of c.in_ok-running.running))
-    (of_whole z ∷ base_power f.n_base n ∷ base_power f.k_base k ∷ divisors f.over n k) c.times_factors.result) c.in_ok-poly.ensures.value
+    (of_whole z ∷ base_power f.n_base p.n ∷ base_power f.k_base p.k ∷ divisors f.over p) c.times_factors.result) c.in_ok-poly.ensures.value
     c.times_factors.ensures.run in
-    let run = run_then fraction_of f.scale (factorial_factors f n k) (whole_fraction (fraction_of c.in_ok-running.running))
-    (of_whole (poly_value f.poly n k) ∷ base_power f.n_base n ∷ base_power f.k_base k ∷ divisors f.over n k) c.times_factors.result
+    let run = run_then fraction_of f.scale (factorial_factors f p) (whole_fraction (fraction_of c.in_ok-running.running))
+    (of_whole (poly_value f.poly p) ∷ base_power f.n_base p.n ∷ base_power f.k_base p.k ∷ divisors f.over p) c.times_factors.result
     c.in_ok-running.ensures.run rest in
-    lowest_of_run fraction_of f n k c.args.term.now.proper c.times_factors.result run
+    lowest_of_run fraction_of f p c.args.term.now.proper c.times_factors.result run
 
 pub returns-clause-too_large : goal.returns-clause-too_large
 returns-clause-too_large c =
     let f = term_of c.args.term.now in
-    let n = c.args.point.n in
-    let k = c.args.point.k in
+    let p.n = c.args.point.n in
+    let p.k = c.args.point.k in
     let rest : GivesRun fraction_of (whole_fraction (fraction_of c.in_ok-running.running))
-    (of_whole (poly_value f.poly n k) ∷ base_power f.n_base n ∷ base_power f.k_base k ∷ divisors f.over n k) c.times_factors.result =
+    (of_whole (poly_value f.poly p) ∷ base_power f.n_base p.n ∷ base_power f.k_base p.k ∷ divisors f.over p) c.times_factors.result =
     subst (λ (z : ℤ). GivesRun fraction_of (whole_fraction (fraction_of c.in_ok-running.running))
-    (of_whole z ∷ base_power f.n_base n ∷ base_power f.k_base k ∷ divisors f.over n k) c.times_factors.result) c.in_ok-poly.ensures.value
+    (of_whole z ∷ base_power f.n_base p.n ∷ base_power f.k_base p.k ∷ divisors f.over p) c.times_factors.result) c.in_ok-poly.ensures.value
     c.times_factors.ensures.run in
-    let run = run_then fraction_of f.scale (factorial_factors f n k) (whole_fraction (fraction_of c.in_ok-running.running))
-    (of_whole (poly_value f.poly n k) ∷ base_power f.n_base n ∷ base_power f.k_base k ∷ divisors f.over n k) c.times_factors.result
+    let run = run_then fraction_of f.scale (factorial_factors f p) (whole_fraction (fraction_of c.in_ok-running.running))
+    (of_whole (poly_value f.poly p) ∷ base_power f.n_base p.n ∷ base_power f.k_base p.k ∷ divisors f.over p) c.times_factors.result
     c.in_ok-running.ensures.run rest in
-    fault_of_run fraction_of f n k c.args.term.now.proper c.times_factors.result run
+    fault_of_run fraction_of f p c.args.term.now.proper c.times_factors.result run
