@@ -58,33 +58,33 @@ factorial_defined (negsuc a) h e = omega (arith, ints, h)
 inverse_defined : (v : ℤ) → IsDefined (inverse_factorial_value v)
 inverse_defined v = (inverse_factorial_times v 0).left_defined
 
+abbrev above_at : ℕ → LinearForm → Point → Fraction
+above_at e f p = natural_power (factorial_value (form_value f p)) e
+
+abbrev below_at : ℕ → LinearForm → Point → Fraction
+below_at e f p = natural_power (inverse_factorial_value (form_value f p)) e
+
 module _ (p : Point) (e : ℕ) where
-  abbrev above_at : LinearForm → ℤ → Fraction
-  above_at f l = natural_power (factorial_value (form_value f p.n l)) e
-
-  abbrev below_at : LinearForm → ℤ → Fraction
-  below_at f l = natural_power (inverse_factorial_value (form_value f p.n l)) e
-
   -- the carrier's factorial above, at k
   above_here : (b : LinearForm) (t : ℤ) → b.k_slope ≡ t → pos 0 ≤ℤ form_value b p
-      → above_at (form_plus b (neg_ℤ (negative_part t))) p.k ≈ times_common (forms_value (falling_where t b e) (later_k p (negsuc 0))) (above_at b p.k)
+      → above_at e (form_plus b (neg_ℤ (negative_part t))) p ≈ times_common (forms_value (falling_where t b e) (later_k p (negsuc 0))) (above_at e b p)
   above_here b (pos m) is h =
       let same : form_value (form_plus b (pos 0)) p ≡ form_value b p = plus_value b (pos 0) p ∙ omega (arith, ints) in
       unchanged (natural_power_defined (factorial_value (form_value b p)) e (factorial_defined (form_value b p) h))
       (ap (λ z. natural_power (factorial_value z) e) same)
   above_here b (negsuc m) is h =
       let inner : (form_value b (later_k p (negsuc 0)) -ℤ pos (suc m)) +ℤ pos 1 ≡ form_value b p +ℤ pos 1 = omega (arith, ints, earlier_k b p, is) in
-      subst (λ z. above_at (form_plus b (pos (suc m))) p.k ≈ times_common z (above_at b p.k))
+      subst (λ z. above_at e (form_plus b (pos (suc m))) p ≈ times_common z (above_at e b p))
       (sym (below_value b (suc m) e (later_k p (negsuc 0)) ∙ ap (λ z. pow (rising z (suc m)) e) inner))
       (factorial_multiple (form_value b p) (suc m) (form_value (form_plus b (pos (suc m))) p) e h (plus_value b (pos (suc m)) p))
 
   -- and at k + 1
   above_next : (b : LinearForm) (t : ℤ) → b.k_slope ≡ t → pos 0 ≤ℤ form_value b p
-      → above_at (form_plus b (neg_ℤ (negative_part t))) (p.k +ℤ pos 1) ≈ times_common (forms_value (rising_where t b e) p) (above_at b p.k)
+      → above_at e (form_plus b (neg_ℤ (negative_part t))) (later_k p (pos 1)) ≈ times_common (forms_value (rising_where t b e) p) (above_at e b p)
   above_next b (pos m) is h =
       let there : form_value (form_plus b (pos 0)) (later_k p (pos 1)) ≡ form_value b p +ℤ pos m =
       plus_value b (pos 0) (later_k p (pos 1)) ∙ omega (arith, ints, next_k b p, is) in
-      subst (λ z. above_at (form_plus b (pos 0)) (p.k +ℤ pos 1) ≈ times_common z (above_at b p.k)) (sym (above_value b m e p))
+      subst (λ z. above_at e (form_plus b (pos 0)) (later_k p (pos 1)) ≈ times_common z (above_at e b p)) (sym (above_value b m e p))
       (factorial_multiple (form_value b p) m (form_value (form_plus b (pos 0)) (later_k p (pos 1))) e h there)
   above_next b (negsuc m) is h =
       let same : form_value (form_plus b (pos (suc m))) (later_k p (pos 1)) ≡ form_value b p =
@@ -94,12 +94,12 @@ module _ (p : Point) (e : ℕ) where
 
   -- the carrier's factorial below, at k
   below_here : (v : LinearForm) (t : ℤ) → v.k_slope ≡ t
-      → below_at (form_plus v (neg_ℤ (positive_part t))) p.k ≈ times_common (forms_value (rising_where t v e) (later_k p (negsuc 0))) (below_at v p.k)
+      → below_at e (form_plus v (neg_ℤ (positive_part t))) p ≈ times_common (forms_value (rising_where t v e) (later_k p (negsuc 0))) (below_at e v p)
   below_here v (pos m) is =
       let y = form_value (form_plus v (neg_ℤ (pos m))) p in
       let there : form_value v p ≡ y +ℤ pos m = omega (arith, ints, plus_value v (neg_ℤ (pos m)) p) in
       let earlier : form_value v (later_k p (negsuc 0)) ≡ y = omega (arith, ints, plus_value v (neg_ℤ (pos m)) p, earlier_k v p, is) in
-      subst (λ z. below_at (form_plus v (neg_ℤ (pos m))) p.k ≈ times_common z (below_at v p.k))
+      subst (λ z. below_at e (form_plus v (neg_ℤ (pos m))) p ≈ times_common z (below_at e v p))
       (sym (above_value v m e (later_k p (negsuc 0)) ∙ ap (λ z. pow (rising (z +ℤ pos 1) m) e) earlier)) (inverse_multiple y m (form_value v p) e there)
   below_here v (negsuc m) is =
       let same : form_value (form_plus v (pos 0)) p ≡ form_value v p = plus_value v (pos 0) p ∙ omega (arith, ints) in
@@ -107,7 +107,7 @@ module _ (p : Point) (e : ℕ) where
       (ap (λ z. natural_power (inverse_factorial_value z) e) same)
 
   below_next : (v : LinearForm) (t : ℤ) → v.k_slope ≡ t
-      → below_at (form_plus v (neg_ℤ (positive_part t))) (p.k +ℤ pos 1) ≈ times_common (forms_value (falling_where t v e) p) (below_at v p.k)
+      → below_at e (form_plus v (neg_ℤ (positive_part t))) (later_k p (pos 1)) ≈ times_common (forms_value (falling_where t v e) p) (below_at e v p)
   below_next v (pos m) is =
       let same : form_value (form_plus v (neg_ℤ (pos m))) (later_k p (pos 1)) ≡ form_value v p =
       plus_value v (neg_ℤ (pos m)) (later_k p (pos 1)) ∙ omega (arith, ints, next_k v p, is) in
@@ -117,7 +117,7 @@ module _ (p : Point) (e : ℕ) where
       let y = form_value (form_plus v (pos 0)) (later_k p (pos 1)) in
       let there : form_value v p ≡ y +ℤ pos (suc m) = omega (arith, ints, plus_value v (pos 0) (later_k p (pos 1)), next_k v p, is) in
       let lower : form_value v p -ℤ pos (suc m) ≡ y = omega (arith, ints, there) in
-      subst (λ z. below_at (form_plus v (pos 0)) (p.k +ℤ pos 1) ≈ times_common z (below_at v p.k))
+      subst (λ z. below_at e (form_plus v (pos 0)) (later_k p (pos 1)) ≈ times_common z (below_at e v p))
       (sym (below_value v (suc m) e p ∙ ap (λ z. pow (rising (z +ℤ pos 1) (suc m)) e) lower))
       (inverse_multiple y (suc m) (form_value v p) e there)
 
@@ -126,17 +126,17 @@ module _ (order : ℕ) (x : Factor) (p : Point) where
   pub argument_splits : pos 0 ≤ℤ form_value (least_of order x.form) p
       → Splits order (λ j. natural_power (factorial_value (form_value x.form (later_n p (pos j)))) x.power)
       (λ j. forms_value (above_least order j x) p)
-      (above_at p x.power (form_plus (least_of order x.form) (neg_ℤ (negative_part x.form.k_slope))) p.k)
-      (above_at p x.power (form_plus (least_of order x.form) (neg_ℤ (negative_part x.form.k_slope))) (p.k +ℤ pos 1))
+      (above_at x.power (form_plus (least_of order x.form) (neg_ℤ (negative_part x.form.k_slope))) p)
+      (above_at x.power (form_plus (least_of order x.form) (neg_ℤ (negative_part x.form.k_slope))) (later_k p (pos 1)))
       (forms_value (falling_where x.form.k_slope (least_of order x.form) x.power) (later_k p (negsuc 0)))
       (forms_value (rising_where x.form.k_slope (least_of order x.form) x.power) p)
   argument_splits h =
       let b = least_of order x.form in
       record {
-        common = above_at p x.power b p.k;
+        common = above_at x.power b p;
         tops = λ j l.
             let count = unsigned_abs (x.form.n_slope *ℤ pos j -ℤ negative_part x.form.n_slope *ℤ pos order) in
-            subst (λ z. natural_power (factorial_value (form_value x.form (later_n p (pos j)))) x.power ≈ times_common z (above_at p x.power b p.k))
+            subst (λ z. natural_power (factorial_value (form_value x.form (later_n p (pos j)))) x.power ≈ times_common z (above_at x.power b p))
             (sym (above_value b count x.power p))
             (factorial_multiple (form_value b p) count (form_value x.form (later_n p (pos j))) x.power h (from_least x.form order p j l));
         carrier_here = above_here p x.power b x.form.k_slope refl h;
@@ -146,20 +146,20 @@ module _ (order : ℕ) (x : Factor) (p : Point) where
   -- a factorial below
   pub lower_splits : Splits order (λ j. natural_power (inverse_factorial_value (form_value x.form (later_n p (pos j)))) x.power)
       (λ j. forms_value (below_greatest order j x) p)
-      (below_at p x.power (form_plus (greatest_of order x.form) (neg_ℤ (positive_part x.form.k_slope))) p.k)
-      (below_at p x.power (form_plus (greatest_of order x.form) (neg_ℤ (positive_part x.form.k_slope))) (p.k +ℤ pos 1))
+      (below_at x.power (form_plus (greatest_of order x.form) (neg_ℤ (positive_part x.form.k_slope))) p)
+      (below_at x.power (form_plus (greatest_of order x.form) (neg_ℤ (positive_part x.form.k_slope))) (later_k p (pos 1)))
       (forms_value (rising_where x.form.k_slope (greatest_of order x.form) x.power) (later_k p (negsuc 0)))
       (forms_value (falling_where x.form.k_slope (greatest_of order x.form) x.power) p)
   lower_splits =
       let v = greatest_of order x.form in
       record {
-        common = below_at p x.power v p.k;
+        common = below_at x.power v p;
         tops = λ j l.
             let u = at_later_n x.form (pos j) in
             let count = unsigned_abs (positive_part x.form.n_slope *ℤ pos order -ℤ x.form.n_slope *ℤ pos j) in
-            subst (λ z. natural_power (inverse_factorial_value z) x.power ≈ times_common (forms_value (below_greatest order j x) p) (below_at p x.power v p.k))
+            subst (λ z. natural_power (inverse_factorial_value z) x.power ≈ times_common (forms_value (below_greatest order j x) p) (below_at x.power v p))
             (later_n_value x.form (pos j) p)
-            (subst (λ z. natural_power (inverse_factorial_value (form_value u p)) x.power ≈ times_common z (below_at p x.power v p.k))
+            (subst (λ z. natural_power (inverse_factorial_value (form_value u p)) x.power ≈ times_common z (below_at x.power v p))
             (sym (above_value u count x.power p))
             (inverse_multiple (form_value u p) count (form_value v p) x.power (to_greatest x.form order p j l)));
         carrier_here = below_here p x.power v x.form.k_slope refl;

@@ -9,7 +9,7 @@ use Rattle.poly_laws.specs.Shift.{poly_shift}
 use Rattle.poly_laws.specs.Values.{horner, value_at, level}
 use Rattle.poly_laws.proofs.Keeps.{of_list, value_at_keeps}
 use Rattle.poly_laws.proofs.ShiftLaws.{value_at_shift}
-use Rattle.hypergeometric.specs.Point.{Point, values_in_n, later_n, later_k}
+use Rattle.hypergeometric.specs.Point.{Point, values, values_in_n, later_n, later_k}
 use Rattle.hypergeometric.specs.Fraction.{Fraction, IsDefined, ◌≈◌, of_whole, fraction_product, fraction_inverse, natural_power, whole_power}
 use Rattle.hypergeometric.specs.ProperTerm.{IsNonzero, ProperTerm, HasFractions, poly_value}
 use Rattle.hypergeometric.proofs.Definedness.{natural_power_defined, whole_power_defined}
@@ -183,14 +183,14 @@ module _ (f : ProperTerm) (order : ℕ) (p : Point) (parts : HasFractions f) whe
       (fraction_product carrier_scale (fraction_product at_n (whole_power f.k_base (p.k +ℤ pos 1)))) f.k_base.bottom f.k_base.top
   number_splits = record { common = common_number; tops = number_tops; carrier_here = number_here; carrier_next = number_next }
 
-  unit_value : (l : ℤ) → poly_value (level 2).ops.unit p.n l ≡ pos 1
-  unit_value l = (value_at_keeps (l ∷ p.n ∷ [])).unit
+  unit_value : (q : Point) → poly_value (level 2).ops.unit q ≡ pos 1
+  unit_value q = (value_at_keeps (values q)).unit
 
   whole_is : (x : ℤ) → of_whole x ≈ times_common x (of_whole (pos 1))
   whole_is x = subst (λ z. of_whole x ≈ z) (sym (product_one (of_whole x))) (equal_to_itself (of_whole x) one_not_zero)
 
-  unit_is : (l : ℤ) → of_whole (poly_value (level 2).ops.unit p.n l) ≈ times_common (pos 1) (of_whole (pos 1))
-  unit_is l = subst (λ z. of_whole z ≈ times_common (pos 1) (of_whole (pos 1))) (sym (unit_value l)) (whole_is (pos 1))
+  unit_is : (q : Point) → of_whole (poly_value (level 2).ops.unit q) ≈ times_common (pos 1) (of_whole (pos 1))
+  unit_is q = subst (λ z. of_whole z ≈ times_common (pos 1) (of_whole (pos 1))) (sym (unit_value q)) (whole_is (pos 1))
 
   pub poly_splits : Splits order (λ j. of_whole (poly_value f.poly (later_n p (pos j)))) (λ j. poly_value (poly_at_later_n f.poly j) p)
       (of_whole (poly_value (level 2).ops.unit p)) (of_whole (poly_value (level 2).ops.unit (later_k p (pos 1)))) (pos 1) (pos 1)
@@ -198,6 +198,6 @@ module _ (f : ProperTerm) (order : ℕ) (p : Point) (parts : HasFractions f) whe
     common = of_whole (pos 1);
     tops = λ j l. subst (λ z. of_whole (poly_value f.poly (later_n p (pos j))) ≈ times_common z (of_whole (pos 1))) (sym (later_poly_value f.poly j p))
         (whole_is (poly_value f.poly (later_n p (pos j))));
-    carrier_here = unit_is p.k;
-    carrier_next = unit_is (p.k +ℤ pos 1);
+    carrier_here = unit_is p;
+    carrier_next = unit_is (later_k p (pos 1));
   }

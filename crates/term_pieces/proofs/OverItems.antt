@@ -4,7 +4,7 @@ use Rattle.std.proofs.Common.{◌≡◌, ◌≢◌, ℕ, zero, suc, Bool, true, 
 use Rattle.std.proofs.lemmas.Bool.{eqb-true}
 use Rattle.std.proofs.lemmas.Int.{ints}
 use Rattle.std.proofs.Math.IntN.{pow}
-use Rattle.std.specs.Prelude.{ℤ, pos, ◌+ℤ◌, ◌-ℤ◌, ◌*ℤ◌, unsigned_abs, cond}
+use Rattle.std.specs.Prelude.{ℤ, pos, negsuc, ◌+ℤ◌, ◌-ℤ◌, ◌*ℤ◌, unsigned_abs, cond}
 use Rattle.ring_solver.proofs.Read.{ring_z, reading_z}
 use Rattle.hypergeometric.specs.Point.{Point, later_k}
 use Rattle.hypergeometric.specs.Fraction.{Fraction, IsDefined, ◌≈◌, of_whole, fraction_product, fraction_inverse, natural_power}
@@ -88,7 +88,7 @@ module _ (p : Point) where
   carrier_here (y ∷ ys) (h, hs) = by (is_zero y.form.k_slope) (carrier_here ys hs)
     where
       there : form_value (at_later_k y.form (pos 1)) (later_k p (negsuc 0)) ≡ form_value y.form p
-      there = later_k_value y.form (pos 1) (later_k p (negsuc 0)) ∙ ap (form_value y.form p.n) (omega (arith, ints))
+      there = later_k_value y.form (pos 1) (later_k p (negsuc 0)) ∙ ap (λ m. form_value y.form (record p { k = m })) (omega (arith, ints))
 
       by : (b : Bool) → inverses (from_each without_k ys) p ≈ times_common (forms_value (from_each with_k (at_next_k ys)) (later_k p (negsuc 0))) (inverses ys p)
           → inverses (cond b (y ∷ []) [] ++ from_each without_k ys) p

@@ -1,7 +1,7 @@
 -- The pieces of a term share one value: all splits of its fields, multiplied.
 use Rattle.std.proofs.Common.{◌≡◌, ℕ, ◌≤◌, List, [], ◌∷◌, ◌++◌, refl, ap, sym, ◌∙◌, subst, arith}
 use Rattle.std.proofs.lemmas.Int.{ints}
-use Rattle.std.specs.Prelude.{ℤ, pos, ◌+ℤ◌, ◌-ℤ◌, ◌*ℤ◌}
+use Rattle.std.specs.Prelude.{ℤ, pos, negsuc, ◌+ℤ◌, ◌*ℤ◌}
 use Rattle.ring_solver.proofs.Read.{ring_z, reading_z}
 use Rattle.poly_laws.specs.Values.{level}
 use Rattle.hypergeometric.specs.Point.{Point, later_n, later_k}
@@ -37,7 +37,7 @@ module _ (f : ProperTerm) (order : ℕ) (p : Point) (parts : HasFractions f) (de
   first_negative : NoneNegative f.up p
   first_negative =
       let here : p.n +ℤ pos 0 ≡ p.n = omega (arith, ints) in
-      subst (λ m. NoneNegative f.up m p.k) here (defined 0 (omega arith)).up
+      subst (λ m. NoneNegative f.up (record p { n = m })) here (defined 0 (omega arith)).up
 
   abbrev ups : ℕ → Fraction
   ups j = product_over factorial_value f.up (later_n p (pos j))
@@ -48,27 +48,27 @@ module _ (f : ProperTerm) (order : ℕ) (p : Point) (parts : HasFractions f) (de
   abbrev overs : ℕ → Fraction
   overs j = inverses f.over (later_n p (pos j))
 
-  abbrev carrier_ups : ℤ → Fraction
-  carrier_ups l = product_over factorial_value (carrier_up order f.up) p.n l
+  abbrev carrier_ups : Point → Fraction
+  carrier_ups q = product_over factorial_value (carrier_up order f.up) q
 
-  abbrev carrier_downs : ℤ → Fraction
-  carrier_downs l = product_over inverse_factorial_value (carrier_down order f.down) p.n l
+  abbrev carrier_downs : Point → Fraction
+  carrier_downs q = product_over inverse_factorial_value (carrier_down order f.down) q
 
-  abbrev carrier_overs : ℤ → Fraction
-  carrier_overs l = inverses (from_each (kept_over order) f.over) p.n l
+  abbrev carrier_overs : Point → Fraction
+  carrier_overs q = inverses (from_each (kept_over order) f.over) q
 
   -- the fields of the carrier, in that order
-  abbrev carrier_fields : ℤ → Fraction
-  carrier_fields l =
-      fraction_product (fraction_product (carrier_of f order).scale (fraction_product (whole_power f.n_base p.n) (whole_power f.k_base l)))
-      (fraction_product (of_whole (poly_value (level 2).ops.unit p.n l)) (fraction_product (carrier_ups l) (fraction_product (carrier_downs l) (carrier_overs l))))
+  abbrev carrier_fields : Point → Fraction
+  carrier_fields q =
+      fraction_product (fraction_product (carrier_of f order).scale (fraction_product (whole_power f.n_base q.n) (whole_power f.k_base q.k)))
+      (fraction_product (of_whole (poly_value (level 2).ops.unit q)) (fraction_product (carrier_ups q) (fraction_product (carrier_downs q) (carrier_overs q))))
 
   all : Splits order
       (λ j. fraction_product (fraction_product f.scale (fraction_product (whole_power f.n_base (p.n +ℤ pos j)) (whole_power f.k_base p.k)))
       (fraction_product (of_whole (poly_value f.poly (later_n p (pos j)))) (fraction_product (ups j) (fraction_product (downs j) (overs j)))))
       (λ j. top_number f order j *ℤ (poly_value (poly_at_later_n f.poly j) p *ℤ (forms_value (from_each (above_least order j) f.up) p
       *ℤ (forms_value (from_each (below_greatest order j) f.down) p *ℤ forms_value (from_each (counted_but order j) f.over) p))))
-      (carrier_fields p.k) (carrier_fields (p.k +ℤ pos 1))
+      (carrier_fields p) (carrier_fields (later_k p (pos 1)))
       (f.k_base.bottom *ℤ (pos 1 *ℤ (forms_value (from_each (falling_up order) f.up) (later_k p (negsuc 0))
       *ℤ (forms_value (from_each (rising_down order) f.down) (later_k p (negsuc 0)) *ℤ forms_value (from_each (later_over order) f.over) (later_k p (negsuc 0))))))
       (f.k_base.top *ℤ (pos 1 *ℤ (forms_value (from_each (rising_up order) f.up) p
@@ -80,20 +80,20 @@ module _ (f : ProperTerm) (order : ℕ) (p : Point) (parts : HasFractions f) (de
       (splits_product order _ _ _ _ _ _ _ _ _ _ _ _ (down_splits order p f.down) (over_lists order p f.over (λ j l. (defined j l).over)))))
 
   -- the value of the carrier, at k and at k + 1
-  carrier_is : (l : ℤ) → proper_value (carrier_of f order) p.n l ≡ carrier_fields l
-  carrier_is l =
-      ap (λ w. fraction_product (carrier_of f order).scale (fraction_product (of_whole (poly_value (level 2).ops.unit p.n l))
-      (fraction_product (whole_power f.n_base p.n) (fraction_product (whole_power f.k_base l)
-      (fraction_product (carrier_ups l) (fraction_product (carrier_downs l) w))))))
-      (gathered_value [] (from_each (kept_over order) f.over) p.n l ∙ one_product (carrier_overs l))
-      ∙ sym (regrouped (carrier_of f order).scale (of_whole (poly_value (level 2).ops.unit p.n l)) (whole_power f.n_base p.n) (whole_power f.k_base l)
-      (fraction_product (carrier_ups l) (fraction_product (carrier_downs l) (carrier_overs l))))
+  carrier_is : (q : Point) → proper_value (carrier_of f order) q ≡ carrier_fields q
+  carrier_is q =
+      ap (λ w. fraction_product (carrier_of f order).scale (fraction_product (of_whole (poly_value (level 2).ops.unit q))
+      (fraction_product (whole_power f.n_base q.n) (fraction_product (whole_power f.k_base q.k)
+      (fraction_product (carrier_ups q) (fraction_product (carrier_downs q) w))))))
+      (gathered_value [] (from_each (kept_over order) f.over) q ∙ one_product (carrier_overs q))
+      ∙ sym (regrouped (carrier_of f order).scale (of_whole (poly_value (level 2).ops.unit q)) (whole_power f.n_base q.n) (whole_power f.k_base q.k)
+      (fraction_product (carrier_ups q) (fraction_product (carrier_downs q) (carrier_overs q))))
 
   one_out : (y a b c : ℤ) → y *ℤ (pos 1 *ℤ (a *ℤ (b *ℤ c))) ≡ y *ℤ (a *ℤ (b *ℤ c))
   one_out y a b c = ring_z (y ∷ a ∷ b ∷ c ∷ []) (search reading_z depth 40 fits 20000) refl
 
-  poly_first : (t poly a b c : ℤ) → t *ℤ (poly *ℤ (a *ℤ (b *ℤ c))) ≡ poly *ℤ (t *ℤ (a *ℤ (b *ℤ c)))
-  poly_first t poly a b c = ring_z (t ∷ poly ∷ a ∷ b ∷ c ∷ []) (search reading_z depth 40 fits 20000) refl
+  poly_first : (t y a b c : ℤ) → t *ℤ (y *ℤ (a *ℤ (b *ℤ c))) ≡ y *ℤ (t *ℤ (a *ℤ (b *ℤ c)))
+  poly_first t y a b c = ring_z (t ∷ y ∷ a ∷ b ∷ c ∷ []) (search reading_z depth 40 fits 20000) refl
 
   pub pieces_share : (pieces : Pieces) → ArePiecesOf pieces f order → ShareValue f pieces order p
   pieces_share pieces are = record {
@@ -118,8 +118,8 @@ module _ (f : ProperTerm) (order : ℕ) (p : Point) (parts : HasFractions f) (de
         ∙ ap (λ t. f.k_base.bottom *ℤ t) (sym (three_joined a b c (later_k p (negsuc 0))))
         ∙ sym (product_value (later_k p (negsuc 0)) pieces.r0 f.k_base.bottom (r_forms f order) are.r0) in
         subst (λ z. z ≈ times_common (factor_list_value pieces.r0 (later_k p (negsuc 0))) all.common)
-        (sym (ap (λ g. proper_value g p) are.carrier ∙ carrier_is p.k))
-        (subst (λ z. carrier_fields p.k ≈ times_common z all.common) numbers all.carrier_here);
+        (sym (ap (λ g. proper_value g p) are.carrier ∙ carrier_is p))
+        (subst (λ z. carrier_fields p ≈ times_common z all.common) numbers all.carrier_here);
     carrier_next =
         let a = from_each (rising_up order) f.up in
         let b = from_each (falling_down order) f.down in
@@ -128,8 +128,8 @@ module _ (f : ProperTerm) (order : ℕ) (p : Point) (parts : HasFractions f) (de
         ∙ ap (λ t. f.k_base.top *ℤ t) (sym (three_joined a b c p))
         ∙ sym (product_value p pieces.q0 f.k_base.top (q_forms f order) are.q0) in
         subst (λ z. z ≈ times_common (factor_list_value pieces.q0 p) all.common)
-        (sym (ap (λ g. proper_value g (later_k p (pos 1))) are.carrier ∙ carrier_is (p.k +ℤ pos 1)))
-        (subst (λ z. carrier_fields (p.k +ℤ pos 1) ≈ times_common z all.common) numbers all.carrier_next);
+        (sym (ap (λ g. proper_value g (later_k p (pos 1))) are.carrier ∙ carrier_is (later_k p (pos 1))))
+        (subst (λ z. carrier_fields (later_k p (pos 1)) ≈ times_common z all.common) numbers all.carrier_next);
     defined_here = subst (λ c. IsDefinedAt c p) (sym are.carrier) (defined_here f order p defined);
     defined_next = subst (λ c. IsDefinedAt c (later_k p (pos 1))) (sym are.carrier) (defined_next f order p defined);
   }

@@ -61,7 +61,7 @@ module _ (p : Point) where
     shift_not_zero i h e = h (sym (later_n_value x.form (pos i) p) ∙ e)
 
     pub first_same : form_value x.form (later_n p (pos 0)) ≡ form_value x.form p
-    first_same = ap (λ m. form_value x.form m p.k) (omega (arith, ints))
+    first_same = ap (λ m. form_value x.form (record p { n = m })) (omega (arith, ints))
 
     -- where the shift j is none of those up to i
     none_left_out : (j i : ℕ) → i < j → AreNotZero i

@@ -1,5 +1,5 @@
 -- What the pieces of a term are good for: where the term is defined at n, .., n + J, one value is behind all of them and behind the carrier.
-use Rattle.std.specs.Prelude.{ℕ, ◌≤◌, ℤ, pos, ◌+ℤ◌, ◌-ℤ◌, ◌*ℤ◌}
+use Rattle.std.specs.Prelude.{ℕ, ◌≤◌, ℤ, pos, negsuc, ◌*ℤ◌}
 use Rattle.hypergeometric.specs.Point.{Point, later_n, later_k}
 use Rattle.hypergeometric.specs.Fraction.{Fraction, ◌≈◌, of_whole, fraction_product}
 use Rattle.hypergeometric.specs.LinearForm.{factor_list_value}
@@ -7,7 +7,7 @@ use Rattle.hypergeometric.specs.ProperTerm.{ProperTerm, IsDefinedAt, proper_valu
 use Rattle.term_pieces.specs.Pieces.{Top, Pieces}
 
 -- p_j
-abbrev pub top_value : Top → ℤ → ℤ → ℤ
+abbrev pub top_value : Top → Point → ℤ
 top_value top p = poly_value top.poly p *ℤ factor_list_value top.factors p
 
 -- H, with F(n+j,k) = p_j H for all j up to J, K(n,k) = r0(k-1) H and K(n,k+1) = q0(k) H. All are defined, the term K itself among them.

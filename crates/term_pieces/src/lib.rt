@@ -5,7 +5,8 @@
 //! are good for).
 #![tactic(auto)]
 
-ghost use Rattle.std.specs.Prelude.{◌≡◌, ◌≤◌, ℕ, ℤ, pos, ◌+ℤ◌, List};
+ghost use Rattle.std.specs.Prelude.{◌≡◌, ◌≤◌, ℕ, ℤ, pos, List};
+ghost use Rattle.hypergeometric.specs.Point.{Point, later_n};
 ghost use Rattle.hypergeometric.specs.LinearForm.{Factor, FactorList};
 ghost use Rattle.hypergeometric.specs.ProperTerm.{ProperTerm, HasFractions, IsDefinedAt};
 ghost use Rattle.term_pieces.specs.Products.{IsProductOf};
@@ -21,8 +22,8 @@ pub fn products_are_one_list()
 /// Where a term is defined at n, .., n + J, its pieces at the order J share one value there: the term at n + j is p_j times it, and the
 /// carrier is r0 at k - 1 times it at k, and q0 times it at k + 1 (A=B chapter 6).
 pub fn pieces_share_a_value()
-    ensures shares { (f : ProperTerm) (pieces : Pieces) (order : ℕ) (n k : ℤ) → HasFractions f → ArePiecesOf pieces f order
-        → ((j : ℕ) → j ≤ order → IsDefinedAt f (n +ℤ pos j) k) → ShareValue f pieces order n k }
+    ensures shares { (f : ProperTerm) (pieces : Pieces) (order : ℕ) (p : Point) → HasFractions f → ArePiecesOf pieces f order
+        → ((j : ℕ) → j ≤ order → IsDefinedAt f (later_n p (pos j))) → ShareValue f pieces order p }
 {}
 
 /// The pieces of a term at an order are fixed by it: q0, r0, the carrier, and p_0 to p_J.
