@@ -13,6 +13,15 @@ use Rattle.term_pieces.proofs.ProductValues.{product_value}
 use Rattle.normal_forms.specs.NormalForm.{Match, Normal, at_earlier_k, form_above, form_below, matched, power_within, forms_before, gosper_forms, chains, IsWithout, IsNormalFormOf}
 use Rattle.normal_forms.proofs.SamePowers.{power_joined, power_once, same_value}
 
+earlier_value : (p : Point) (s : LinearForm) (h : ℕ) → form_value (at_earlier_k s h) p ≡ form_value s (later_k p (neg_ℤ (pos h)))
+earlier_value p s h = later_k_value s (neg_ℤ (pos h)) p
+
+longer : (p : Point) (s : LinearForm) (h e : ℕ)
+    → forms_value (forms_before s (suc h) e) p ≡ forms_value (forms_before s h e) p *ℤ pow (form_value s (later_k p (neg_ℤ (pos (suc h))))) e
+longer p s h e =
+    joined_value (forms_before s h e) (factor_with (at_earlier_k s (suc h)) e ∷ []) p
+    ∙ ap (λ t. forms_value (forms_before s h e) p *ℤ t) (lone_value (at_earlier_k s (suc h)) e p ∙ ap (λ t. pow t e) (earlier_value p s (suc h)))
+
 module _ (p : Point) where
   -- a list is what is left of it, times what was taken
   pub without_value : (l whole : FactorList) (taken : List Factor) → IsSorted whole.factors → IsWithout l whole taken
@@ -28,23 +37,14 @@ module _ (p : Point) where
       powers : (f : LinearForm) → power_of f whole.factors ≡ power_within f (l.factors ++ taken)
       powers f = omega (arith, is.powers f, power_joined f l.factors taken, power_once f l.factors is.sorted)
 
-  earlier_value : (s : LinearForm) (h : ℕ) (j : ℤ) → form_value (at_earlier_k s h) p.n j ≡ form_value s p.n (j +ℤ neg_ℤ (pos h))
-  earlier_value s h j = later_k_value s (neg_ℤ (pos h)) p.n j
-
-  longer : (s : LinearForm) (h e : ℕ) (j : ℤ)
-      → forms_value (forms_before s (suc h) e) p.n j ≡ forms_value (forms_before s h e) p.n j *ℤ pow (form_value s p.n (j +ℤ neg_ℤ (pos (suc h)))) e
-  longer s h e j =
-      joined_value (forms_before s h e) (factor_with (at_earlier_k s (suc h)) e ∷ []) p.n j
-      ∙ ap (λ t. forms_value (forms_before s h e) p.n j *ℤ t) (lone_value (at_earlier_k s (suc h)) e p.n j ∙ ap (λ t. pow t e) (earlier_value s (suc h) j))
-
   -- s(k-1) .. s(k-h-1) by s(k-1) .. s(k-h), where s(k-h) at k-1 comes last
   chain_below : (s : LinearForm) (h e : ℕ)
       → forms_value (forms_before s (suc h) e) p
       ≡ forms_value (forms_before s h e) p *ℤ pow (form_value (at_earlier_k s h) (later_k p (negsuc 0))) e
   chain_below s h e =
-      longer s h e p.k
+      longer p s h e
       ∙ ap (λ t. forms_value (forms_before s h e) p *ℤ pow t e)
-      (ap (form_value s p.n) (same p.k h) ∙ sym (earlier_value s h (p.k +ℤ negsuc 0)))
+      (ap (λ k. form_value s (record p { k = k })) (same p.k h) ∙ sym (earlier_value (later_k p (negsuc 0)) s h))
     where
       same : (k : ℤ) (h : ℕ) → k +ℤ neg_ℤ (pos (suc h)) ≡ (k +ℤ negsuc 0) +ℤ neg_ℤ (pos h)
       same k h = omega (arith, ints)
@@ -53,8 +53,8 @@ module _ (p : Point) where
   chain_next : (s : LinearForm) (h e : ℕ)
       → forms_value (forms_before s (suc h) e) (later_k p (pos 1)) ≡ pow (form_value s p) e *ℤ forms_value (forms_before s h e) p
   chain_next s zero e =
-      longer s 0 e (p.k +ℤ pos 1) ∙ exchanged (pow (form_value s p.n ((p.k +ℤ pos 1) +ℤ neg_ℤ (pos 1))) e)
-      ∙ ap (λ t. pow (form_value s p.n t) e *ℤ pos 1) (same p.k)
+      longer (later_k p (pos 1)) s 0 e ∙ exchanged (pow (form_value s (record p { k = (p.k +ℤ pos 1) +ℤ neg_ℤ (pos 1) })) e)
+      ∙ ap (λ k. pow (form_value s (record p { k = k })) e *ℤ pos 1) (same p.k)
     where
       exchanged : (x : ℤ) → pos 1 *ℤ x ≡ x *ℤ pos 1
       exchanged x = ring_z (x ∷ []) (search reading_z depth 40 fits 20000) refl
@@ -62,11 +62,11 @@ module _ (p : Point) where
       same : (k : ℤ) → (k +ℤ pos 1) +ℤ neg_ℤ (pos 1) ≡ k
       same k = omega (arith, ints)
   chain_next s (suc h) e =
-      longer s (suc h) e (p.k +ℤ pos 1)
-      ∙ ap (λ t. t *ℤ pow (form_value s p.n ((p.k +ℤ pos 1) +ℤ neg_ℤ (pos (suc (suc h))))) e) (chain_next s h e)
-      ∙ ap (λ t. (pow (form_value s p) e *ℤ forms_value (forms_before s h e) p) *ℤ pow (form_value s p.n t) e) (same p.k h)
+      longer (later_k p (pos 1)) s (suc h) e
+      ∙ ap (λ t. t *ℤ pow (form_value s (record p { k = (p.k +ℤ pos 1) +ℤ neg_ℤ (pos (suc (suc h))) })) e) (chain_next s h e)
+      ∙ ap (λ k. (pow (form_value s p) e *ℤ forms_value (forms_before s h e) p) *ℤ pow (form_value s (record p { k = k })) e) (same p.k h)
       ∙ grouped (pow (form_value s p) e) (forms_value (forms_before s h e) p) (pow (form_value s (later_k p (neg_ℤ (pos (suc h))))) e)
-      ∙ ap (λ t. pow (form_value s p) e *ℤ t) (sym (longer s h e p.k))
+      ∙ ap (λ t. pow (form_value s p) e *ℤ t) (sym (longer p s h e))
     where
       grouped : (a b c : ℤ) → (a *ℤ b) *ℤ c ≡ a *ℤ (b *ℤ c)
       grouped a b c = ring_z (a ∷ b ∷ c ∷ []) (search reading_z depth 40 fits 20000) refl

@@ -1,7 +1,7 @@
 -- A normal form keeps the quotient: q0/r0 is q/r times A/B, and A/B is g at k + 1 over g at k.
 use Rattle.std.proofs.Common.{◌≡◌, [], ◌∷◌, refl, ap, sym, ◌∙◌, arith}
 use Rattle.std.proofs.lemmas.Int.{ints}
-use Rattle.std.specs.Prelude.{ℤ, pos, negsuc, ◌+ℤ◌, ◌-ℤ◌, ◌*ℤ◌}
+use Rattle.std.specs.Prelude.{ℤ, pos, negsuc, ◌+ℤ◌, ◌*ℤ◌}
 use Rattle.ring_solver.proofs.Read.{ring_z, reading_z}
 use Rattle.hypergeometric.specs.Point.{Point, later_k}
 use Rattle.hypergeometric.specs.LinearForm.{FactorList, factor_list_value}
@@ -22,10 +22,7 @@ module _ (normal : Normal) (q0 r0 : FactorList) (is : IsNormalFormOf normal q0 r
       → factor_list_value normal.poles p ≡ factor_list_value normal.g p *ℤ value_below normal (later_k p (negsuc 0))
   chains_here p =
       poles_value p normal q0 r0 is ∙ product_below p normal.matches
-      ∙ (λ i. sym (g_value p normal q0 r0 is) i *ℤ value_below normal p.n (one_less p.k i))
-    where
-      one_less : (k : ℤ) → k +ℤ negsuc 0 ≡ k -ℤ pos 1
-      one_less k = omega (arith, ints)
+      ∙ ap (λ t. t *ℤ value_below normal (later_k p (negsuc 0))) (sym (g_value p normal q0 r0 is))
 
   pub chains_next : (p : Point)
       → factor_list_value normal.poles (later_k p (pos 1)) ≡ value_above normal p *ℤ factor_list_value normal.g p
@@ -42,11 +39,11 @@ module _ (normal : Normal) (q0 r0 : FactorList) (is : IsNormalFormOf normal q0 r
       let r = factor_list_value normal.r p in
       let g = factor_list_value normal.g p in
       let next = factor_list_value normal.g (later_k p (pos 1)) in
-      let shared = sym (chains_next p) ∙ chains_here (later_k p (pos 1)) ∙ ap (λ t. next *ℤ value_below normal p.n t) (and_back p.k) in
+      let shared = sym (chains_next p) ∙ chains_here (later_k p (pos 1)) ∙ ap (λ k. next *ℤ value_below normal (record p { k = k })) (and_back p.k) in
       ap (λ t. t *ℤ (r *ℤ g)) (q_kept q_sorted p) ∙ grouped q (value_above normal p) r g ∙ ap (λ t. (q *ℤ r) *ℤ t) shared
       ∙ spread q r next (value_below normal p) ∙ ap (λ t. t *ℤ (q *ℤ next)) (sym (r_kept r_sorted p))
     where
-      and_back : (k : ℤ) → (k +ℤ pos 1) -ℤ pos 1 ≡ k
+      and_back : (k : ℤ) → (k +ℤ pos 1) +ℤ negsuc 0 ≡ k
       and_back k = omega (arith, ints)
 
       grouped : (q a r g : ℤ) → (q *ℤ a) *ℤ (r *ℤ g) ≡ (q *ℤ r) *ℤ (a *ℤ g)

@@ -3,7 +3,8 @@
 //! `specs/NormalForm.antt` has the definition, `proofs/` the laws. The functions here do nothing: their contracts are the laws.
 #![tactic(auto)]
 
-ghost use Rattle.std.specs.Prelude.{◌≡◌, ◌≤◌, ℕ, ℤ, pos, ◌+ℤ◌, ◌-ℤ◌, ◌*ℤ◌, List};
+ghost use Rattle.std.specs.Prelude.{◌≡◌, ◌≤◌, ℕ, pos, negsuc, ◌*ℤ◌, List};
+ghost use Rattle.hypergeometric.specs.Point.{Point, later_k};
 ghost use Rattle.hypergeometric.specs.LinearForm.{LinearForm, Factor, FactorList, factor_list_value};
 ghost use Rattle.hypergeometric.specs.FormOrder.{IsSorted};
 ghost use Rattle.lin_form.specs.FactorLists.{power_of};
@@ -36,15 +37,15 @@ pub fn normal_forms_exist()
 /// A normal form keeps the quotient, at each point. With A what the matches take from q0 and B what they take from r0: q0 = q A and r0 = r B.
 /// The chains are g(k) B(k-1), and A(k) g(k) at k + 1. So q0(k)/r0(k) is q(k)/r(k) times g(k+1)/g(k) (A=B chapter 5).
 pub fn normal_forms_keep_the_quotient()
-    ensures q { (normal : Normal) (q0 r0 : FactorList) → IsNormalFormOf normal q0 r0 → IsSorted q0.factors → (n k : ℤ)
-        → factor_list_value q0 n k ≡ factor_list_value normal.q n k *ℤ value_above normal n k }
-    ensures r { (normal : Normal) (q0 r0 : FactorList) → IsNormalFormOf normal q0 r0 → IsSorted r0.factors → (n k : ℤ)
-        → factor_list_value r0 n k ≡ factor_list_value normal.r n k *ℤ value_below normal n k }
-    ensures chains_here { (normal : Normal) (q0 r0 : FactorList) → IsNormalFormOf normal q0 r0 → (n k : ℤ)
-        → factor_list_value normal.poles n k ≡ factor_list_value normal.g n k *ℤ value_below normal n (k -ℤ pos 1) }
-    ensures chains_next { (normal : Normal) (q0 r0 : FactorList) → IsNormalFormOf normal q0 r0 → (n k : ℤ)
-        → factor_list_value normal.poles n (k +ℤ pos 1) ≡ value_above normal n k *ℤ factor_list_value normal.g n k }
-    ensures quotient { (normal : Normal) (q0 r0 : FactorList) → IsNormalFormOf normal q0 r0 → IsSorted q0.factors → IsSorted r0.factors → (n k : ℤ)
-        → factor_list_value q0 n k *ℤ (factor_list_value normal.r n k *ℤ factor_list_value normal.g n k)
-        ≡ factor_list_value r0 n k *ℤ (factor_list_value normal.q n k *ℤ factor_list_value normal.g n (k +ℤ pos 1)) }
+    ensures q { (normal : Normal) (q0 r0 : FactorList) → IsNormalFormOf normal q0 r0 → IsSorted q0.factors → (p : Point)
+        → factor_list_value q0 p ≡ factor_list_value normal.q p *ℤ value_above normal p }
+    ensures r { (normal : Normal) (q0 r0 : FactorList) → IsNormalFormOf normal q0 r0 → IsSorted r0.factors → (p : Point)
+        → factor_list_value r0 p ≡ factor_list_value normal.r p *ℤ value_below normal p }
+    ensures chains_here { (normal : Normal) (q0 r0 : FactorList) → IsNormalFormOf normal q0 r0 → (p : Point)
+        → factor_list_value normal.poles p ≡ factor_list_value normal.g p *ℤ value_below normal (later_k p (negsuc 0)) }
+    ensures chains_next { (normal : Normal) (q0 r0 : FactorList) → IsNormalFormOf normal q0 r0 → (p : Point)
+        → factor_list_value normal.poles (later_k p (pos 1)) ≡ value_above normal p *ℤ factor_list_value normal.g p }
+    ensures quotient { (normal : Normal) (q0 r0 : FactorList) → IsNormalFormOf normal q0 r0 → IsSorted q0.factors → IsSorted r0.factors → (p : Point)
+        → factor_list_value q0 p *ℤ (factor_list_value normal.r p *ℤ factor_list_value normal.g p)
+        ≡ factor_list_value r0 p *ℤ (factor_list_value normal.q p *ℤ factor_list_value normal.g (later_k p (pos 1))) }
 {}
