@@ -39,9 +39,9 @@ pub list_later : (l : FactorList) (c : ℤ) (p : Point) → factor_list_value (l
 list_later l c p = ap (λ z. l.scale *ℤ z) (forms_later l.factors c p)
 
 -- the numbers a_j t_j + a_(j+1) t_(j+1) + ..
-abbrev pub sum_of_multiples : (ℕ → ℤ) → List Meaning → ℤ → ℕ → ℤ
-sum_of_multiples t [] n j = pos 0
-sum_of_multiples t (a ∷ more) n j = value_in_n a n *ℤ t j +ℤ sum_of_multiples t more n (suc j)
+abbrev pub sum_of_multiples : (ℕ → ℤ) → List Meaning → Point → ℕ → ℤ
+sum_of_multiples t [] p j = pos 0
+sum_of_multiples t (a ∷ more) p j = value_in_n a p *ℤ t j +ℤ sum_of_multiples t more p (suc j)
 
 list_value : (l : FactorList) (p : Point) → poly_value (list_polynomial l) p ≡ factor_list_value l p
 list_value l p = list_at l (list_polynomial l) refl p
@@ -50,25 +50,25 @@ poles_are : (xs : List Factor) (p : Point) → poly_value (poles_polynomial xs) 
 poles_are xs p = list_value (record { scale = pos 1; factors = xs }) p ∙ one_times (forms_value xs p)
 
 module _ (p : Point) where
-  pub product_of : (poly q : Meaning) (a b : ℤ) → poly_value poly p ≡ a → poly_value q p ≡ b → poly_value (poly_product poly q) p ≡ a *ℤ b
-  product_of poly q a b e g = (value_at_keeps (values p)).product poly q ∙ (λ i. e i *ℤ g i)
+  pub product_of : (x y : Meaning) (a b : ℤ) → poly_value x p ≡ a → poly_value y p ≡ b → poly_value (poly_product x y) p ≡ a *ℤ b
+  product_of x y a b e g = (value_at_keeps (values p)).product x y ∙ (λ i. e i *ℤ g i)
 
-  sum_of : (poly q : Meaning) (a b : ℤ) → poly_value poly p ≡ a → poly_value q p ≡ b → poly_value (poly_sum poly q) p ≡ a +ℤ b
-  sum_of poly q a b e g = (value_at_keeps (values p)).sum poly q ∙ (λ i. e i +ℤ g i)
+  sum_of : (x y : Meaning) (a b : ℤ) → poly_value x p ≡ a → poly_value y p ≡ b → poly_value (poly_sum x y) p ≡ a +ℤ b
+  sum_of x y a b e g = (value_at_keeps (values p)).sum x y ∙ (λ i. e i +ℤ g i)
 
-  pub difference_of : (poly q : Meaning) (a b : ℤ) → poly_value poly p ≡ a → poly_value q p ≡ b → poly_value (poly_difference poly q) p ≡ a +ℤ neg_ℤ b
-  difference_of poly q a b e g =
-      (value_at_keeps (values p)).sum poly ((level 2).ops.neg q)
-      ∙ (λ i. e i +ℤ ((value_at_keeps (values p)).neg q ∙ ap neg_ℤ g) i)
+  pub difference_of : (x y : Meaning) (a b : ℤ) → poly_value x p ≡ a → poly_value y p ≡ b → poly_value (poly_difference x y) p ≡ a +ℤ neg_ℤ b
+  difference_of x y a b e g =
+      (value_at_keeps (values p)).sum x ((level 2).ops.neg y)
+      ∙ (λ i. e i +ℤ ((value_at_keeps (values p)).neg y ∙ ap neg_ℤ g) i)
 
-  pub constant_is : (a : Meaning) → poly_value (constant (level 1).ops a) p ≡ value_in_n a p.n
-  constant_is a = of_list (level 1).ops (value_at (values_in_n p)) (value_at_keeps (values_in_n p)) p.k (a ∷ []) ∙ no_k (value_in_n a p.n) p.k
+  pub constant_is : (a : Meaning) → poly_value (constant (level 1).ops a) p ≡ value_in_n a p
+  constant_is a = of_list (level 1).ops (value_at (values_in_n p)) (value_at_keeps (values_in_n p)) p.k (a ∷ []) ∙ no_k (value_in_n a p) p.k
 
   pub top_is : (t : Top) → poly_value (top_polynomial t) p ≡ top_value t p
   top_is t = product_of t.poly (list_polynomial t.factors) (poly_value t.poly p) (factor_list_value t.factors p) refl (list_value t.factors p)
 
   pub tops_are : (top : ℕ → Top) (multipliers : List Meaning) (j : ℕ)
-      → poly_value (sum_of_tops top multipliers j) p ≡ sum_of_multiples (λ i. top_value (top i) p) multipliers p.n j
+      → poly_value (sum_of_tops top multipliers j) p ≡ sum_of_multiples (λ i. top_value (top i) p) multipliers p j
   tops_are top [] j = (value_at_keeps (values p)).nought
   tops_are top (a ∷ more) j =
       sum_of (poly_product (constant (level 1).ops a) (top_polynomial (top j))) (sum_of_tops top more (suc j)) _ _
@@ -89,5 +89,5 @@ module _ (p : Point) where
   identity_at pieces c s e =
       (λ i. sym (list_value pieces.q0 p) i *ℤ (poly_value c.y (later_k p (pos 1)) *ℤ sym (poles_are c.poles p) i)
       +ℤ neg_ℤ (sym (previous_is pieces.r0) i *ℤ (poly_value c.y p *ℤ sym (poles_are c.poles (later_k p (pos 1))) i)))
-      ∙ certificate_at p (list_polynomial pieces.q0) (at_previous (level 1).ops (list_polynomial pieces.r0)) s c.y (poles_polynomial c.poles) e
+      ∙ certificate_at p.n p.k (list_polynomial pieces.q0) (at_previous (level 1).ops (list_polynomial pieces.r0)) s c.y (poles_polynomial c.poles) e
       ∙ (λ i. poly_value s p *ℤ (poles_are c.poles p i *ℤ poles_are c.poles (later_k p (pos 1)) i))

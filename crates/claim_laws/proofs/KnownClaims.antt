@@ -3,6 +3,7 @@
 use Rattle.std.proofs.Common.{◌≡◌, ℕ, zero, suc, [], ◌∷◌, refl}
 use Rattle.std.specs.Prelude.{ℤ, pos, negsuc, ◌*ℤ◌}
 use Rattle.ring_laws.specs.Meaning.{Meaning, number, listed}
+use Rattle.hypergeometric.specs.Point.{point}
 use Rattle.hypergeometric.specs.Fraction.{Fraction, of_whole, fraction_difference}
 use Rattle.hypergeometric.specs.LinearForm.{LinearForm, Factor, FactorList}
 use Rattle.hypergeometric.specs.ProperTerm.{ProperTerm, proper_value}
@@ -110,10 +111,10 @@ carrier_over_a_pole = refl
 
 -- at n = 3 and k = 1 the left side is -8 * 3/2 + 5 * 2 = -2, and G(3,2) - G(3,1) = -6 + 4
 abbrev left_at : Fraction
-left_at = left_side (proper_value divided) over_a_pole (pos 3) (pos 1)
+left_at = left_side (proper_value divided) over_a_pole (point (pos 3) (pos 1))
 
 abbrev right_at : Fraction
-right_at = fraction_difference (certificate over_a_pole (pos 3) (pos 2)) (certificate over_a_pole (pos 3) (pos 1))
+right_at = fraction_difference (certificate over_a_pole (point (pos 3) (pos 2))) (certificate over_a_pole (point (pos 3) (pos 1)))
 
 pub telescopes_over_a_pole : (left_at.top ≡ negsuc 1 *ℤ left_at.bottom) × (right_at.top ≡ negsuc 1 *ℤ right_at.bottom)
 unfolding lib.IntN.pow lib.IntN.one

@@ -77,7 +77,7 @@ module _ (f : ProperTerm) (value : Point → Fraction) (pieces : Pieces) (order 
   place = omega (arith, ints)
 
   first_multiple : value p ≈ times_common (top_value (pieces.top 0) p) common
-  first_multiple = subst (λ m. value m p.k ≈ times_common (top_value (pieces.top 0) p) common) place (term_multiple 0 (omega arith))
+  first_multiple = subst (λ m. value (record p { n = m }) ≈ times_common (top_value (pieces.top 0) p) common) place (term_multiple 0 (omega arith))
 
   -- the numbers that the ratio names, by the pieces
   bottom_is : factor_list_value (pieces.top 0).factors p ≡ factor_list_value c.ratio_bottom p
@@ -87,7 +87,7 @@ module _ (f : ProperTerm) (value : Point → Fraction) (pieces : Pieces) (order 
   top_is = sym (ap (λ l. factor_list_value l p) goes.ratio_top ∙ list_later pieces.r0 (negsuc 0) p)
 
   poly_is : poly_value (pieces.top 0).poly p ≡ poly_value f.poly p
-  poly_is = ap (λ e. poly_value e p) (are.poly 0 (omega arith)) ∙ later_poly_value f.poly 0 p ∙ ap (λ m. poly_value f.poly m p.k) place
+  poly_is = ap (λ e. poly_value e p) (are.poly 0 (omega arith)) ∙ later_poly_value f.poly 0 p ∙ ap (λ m. poly_value f.poly (record p { n = m })) place
 
   -- G Rbot P D = F Rtop Y
   pub ratio_holds : poles_value c p ≢ pos 0

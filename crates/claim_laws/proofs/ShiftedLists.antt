@@ -6,7 +6,7 @@ use Rattle.poly_laws.specs.Values.{value_at, level}
 use Rattle.poly_laws.proofs.Equal.{level_laws, same_values}
 use Rattle.poly_laws.proofs.ShiftLaws.{value_at_shift}
 use Rattle.poly_laws.proofs.StepMeanings.{shift_passes}
-use Rattle.hypergeometric.specs.Point.{point, values, values_in_n, later_k}
+use Rattle.hypergeometric.specs.Point.{point, later_k}
 use Rattle.hypergeometric.specs.LinearForm.{FactorList}
 use Rattle.lin_form.specs.Products.{list_polynomial}
 use Rattle.lin_form.proofs.FormPolynomials.{list_passes}
@@ -23,11 +23,11 @@ list_shifted c l = (poly_at_k_plus c (list_polynomial l), shift_passes (level 1)
 same_at_points : (c : ℤ) (l : FactorList) (point : List ℤ) → length point ≡ 2
     → value_at point (list_polynomial (list_at_k_plus c l)) ≡ value_at point (poly_at_k_plus c (list_polynomial l))
 same_at_points c l [] e = absurd (omega (arith, e))
-same_at_points c l (p.k ∷ []) e = absurd (omega (arith, e))
-same_at_points c l (values p) e =
-    list_at (list_at_k_plus c l) (list_polynomial (list_at_k_plus c l)) refl p ∙ list_later l c p
-    ∙ sym (value_at_shift p.k c (values_in_n p) (list_polynomial l) ∙ list_at l (list_polynomial l) refl (later_k p c))
-same_at_points c l (p.k ∷ p.n ∷ m ∷ more) e = absurd (omega (arith, e))
+same_at_points c l (k ∷ []) e = absurd (omega (arith, e))
+same_at_points c l (k ∷ n ∷ []) e =
+    list_at (list_at_k_plus c l) (list_polynomial (list_at_k_plus c l)) refl (point n k) ∙ list_later l c (point n k)
+    ∙ sym (value_at_shift k c (n ∷ []) (list_polynomial l) ∙ list_at l (list_polynomial l) refl (later_k (point n k) c))
+same_at_points c l (k ∷ n ∷ m ∷ more) e = absurd (omega (arith, e))
 
 pub shifted_list : (c : ℤ) (l : FactorList) → list_polynomial (list_at_k_plus c l) ≡ poly_at_k_plus c (list_polynomial l)
 shifted_list c l =

@@ -55,8 +55,8 @@ times_difference x f g = fraction_same (tops x f.top f.bottom g.top g.bottom) (b
 same_side : (value : Point → Fraction) (a : Meaning) (c : Claim) (p : Point) → left_side value (pair_recurrence a c) p ≡ pair_side value a p
 same_side value a c p =
     ap (λ x. fraction_sum (fraction_product (of_whole x) (value p))
-    (fraction_sum (fraction_product (of_whole (value_in_n a p.n)) (value (later_n p (pos 1)))) (of_whole (pos 0)))) (negated a p.n)
-    ∙ sym (times_difference (value_in_n a p.n) (value p) (value (later_n p (pos 1))))
+    (fraction_sum (fraction_product (of_whole (value_in_n a p)) (value (later_n p (pos 1)))) (of_whole (pos 0)))) (negated a p.n)
+    ∙ sym (times_difference (value_in_n a p) (value p) (value (later_n p (pos 1))))
 
 -- a (p_1 - p_0) is -a p_0 + (a p_1 + 0)
 numbers_are : (top : ℕ → ℤ) (a : Meaning) (n : ℤ)
