@@ -7,7 +7,7 @@ use Rattle.ring_laws.specs.Meaning.{Meaning}
 use Rattle.poly_laws.specs.Values.{value_at, level}
 use Rattle.poly_laws.proofs.Keeps.{of_list, value_at_keeps}
 use Rattle.poly_laws.proofs.ShiftLaws.{value_at_shift}
-use Rattle.hypergeometric.specs.Point.{Point, point, values, values_in_n, later_k}
+use Rattle.hypergeometric.specs.Point.{Point, values, values_in_n, later_k}
 use Rattle.hypergeometric.specs.ProperTerm.{poly_value}
 use Rattle.division_laws.specs.Polynomials.{at_previous, constant}
 use Rattle.key_laws.specs.KeyEquation.{combination}
@@ -47,5 +47,5 @@ module _ (p : Point) where
       (poly_value r0 (later_k p (negsuc 0)) *ℤ (poly_value y p *ℤ poly_value poles (later_k p (pos 1)))))
       ∙ ap (λ r. poly_value q0 p *ℤ (poly_value y (later_k p (pos 1)) *ℤ poly_value poles p)
       +ℤ neg_ℤ (r *ℤ (poly_value y p *ℤ poly_value poles (later_k p (pos 1))))) (sym (previous_at r0))
-      ∙ certificate_at p q0 (at_previous (level 1).ops r0) (combination (level 1).ops multipliers tops) y poles e
+      ∙ certificate_at p.n p.k q0 (at_previous (level 1).ops r0) (combination (level 1).ops multipliers tops) y poles e
       ∙ ap (λ s. s *ℤ (poly_value poles p *ℤ poly_value poles (later_k p (pos 1)))) (combination_at multipliers tops)

@@ -6,7 +6,7 @@ use Rattle.poly_laws.specs.Values.{level}
 use Rattle.poly_laws.proofs.Equal.{level_laws}
 use Rattle.poly_laws.proofs.Keeps.{value_at_keeps}
 use Rattle.poly_laws.proofs.ListLaws.{product_nought, nought_product, neg_nought}
-use Rattle.hypergeometric.specs.Point.{values}
+use Rattle.hypergeometric.specs.Point.{values, later_k}
 use Rattle.hypergeometric.specs.LinearForm.{Factor, FactorList}
 use Rattle.hypergeometric.specs.FormOrder.{IsSorted}
 use Rattle.lin_form.specs.Products.{list_polynomial}
@@ -86,7 +86,7 @@ module _ (normal : Normal) (q0 r0 : FactorList) (is : IsNormalFormOf normal q0 r
   shifted_zero : (w : ℤ) → shift_by w in_k.nought ≡ in_k.nought
   shifted_zero w =
       same_polynomials (shift_by w in_k.nought) in_k.nought
-      (λ p. shift_at w in_k.nought p ∙ (value_at_keeps ((p.k +ℤ w) ∷ p.n ∷ [])).nought ∙ sym (value_at_keeps (values p)).nought)
+      (λ p. shift_at w in_k.nought p ∙ (value_at_keeps (values (later_k p w))).nought ∙ sym (value_at_keeps (values p)).nought)
 
   no_difference : (a b : Polynomial (level 1)) → in_k.sum (in_k.product a in_k.nought) (in_k.neg (in_k.product b in_k.nought)) ≡ in_k.nought
   no_difference a b =

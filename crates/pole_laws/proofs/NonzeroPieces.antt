@@ -9,7 +9,7 @@ use Rattle.poly_laws.specs.Values.{level}
 use Rattle.poly_laws.proofs.Equal.{level_laws}
 use Rattle.poly_laws.proofs.Keeps.{value_at_keeps}
 use Rattle.poly_laws.proofs.PolyDomain.{poly_domain}
-use Rattle.hypergeometric.specs.Point.{Point, values}
+use Rattle.hypergeometric.specs.Point.{Point, point, values}
 use Rattle.hypergeometric.specs.LinearForm.{LinearForm, Factor, FactorList, form_value}
 use Rattle.hypergeometric.specs.ProperTerm.{ProperTerm, HasFractions, poly_value}
 use Rattle.lin_form.specs.FactorLists.{factor_with}
@@ -58,10 +58,10 @@ slope_of_values a b c h k = omega (arith, ints, h, k)
 pub lone_some : (f : LinearForm) → f.k_slope ≢ pos 0 → ¬ (forms_in_k (factor_with f 1 ∷ []) ≡ in_k.nought)
 lone_some f slope e = slope (slope_of_values f.n_slope f.k_slope f.offset (at_point (pos 0)) (at_point (pos 1)))
   where
-    at_point : (k : ℤ) → form_value f (pos 0) k ≡ pos 0
+    at_point : (k : ℤ) → form_value f (point (pos 0) k) ≡ pos 0
     at_point k =
-        sym (power_one (form_value f (pos 0) k)) ∙ sym (power_at f (pos 0) k 1)
-        ∙ ap (λ (t : Polynomial (level 1)). poly_value t.0 (pos 0) k) e ∙ (value_at_keeps (k ∷ pos 0 ∷ [])).nought
+        sym (power_one (form_value f (point (pos 0) k))) ∙ sym (power_at f (point (pos 0) k) 1)
+        ∙ ap (λ (t : Polynomial (level 1)). poly_value t.0 (point (pos 0) k)) e ∙ (value_at_keeps (values (point (pos 0) k))).nought
 
 powers_some : (f : LinearForm) (e : ℕ) → f.k_slope ≢ pos 0 → ¬ (forms_in_k (factor_with f e ∷ []) ≡ in_k.nought)
 powers_some f zero slope z = unit_some (sym (no_power f) ∙ z)

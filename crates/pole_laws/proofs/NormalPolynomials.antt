@@ -39,9 +39,9 @@ same_polynomials x y h = same_values 2 x y at_point
   where
     at_point : (point : List ℤ) → length point ≡ 2 → value_at point x.0 ≡ value_at point y.0
     at_point [] e = absurd (omega arith)
-    at_point (p.k ∷ []) e = absurd (omega arith)
-    at_point (values p) e = h p
-    at_point (p.k ∷ p.n ∷ m ∷ rest) e = absurd (omega (arith, e))
+    at_point (k ∷ []) e = absurd (omega arith)
+    at_point (k ∷ n ∷ []) e = h (point n k)
+    at_point (k ∷ n ∷ m ∷ rest) e = absurd (omega (arith, e))
 
 pub product_at : (x y : Polynomial (level 1)) (p : Point) → poly_value (in_k.product x y).0 p ≡ poly_value x.0 p *ℤ poly_value y.0 p
 product_at x y p = (value_at_keeps (values p)).product x.0 y.0

@@ -8,6 +8,7 @@
 ghost use Rattle.std.specs.Prelude.{◌≡◌, ℕ, ℤ, List, [], ◌∷◌};
 ghost use Rattle.ring_laws.specs.Meaning.{Meaning};
 ghost use Rattle.poly_laws.specs.Values.{level};
+ghost use Rattle.hypergeometric.specs.Point.{Point};
 ghost use Rattle.hypergeometric.specs.LinearForm.{LinearForm, Factor, FactorList};
 ghost use Rattle.hypergeometric.specs.FormOrder.{IsSorted};
 ghost use Rattle.lin_form.specs.FactorLists.{factor_with};
@@ -82,5 +83,5 @@ pub fn lists_are_not_zero()
 /// The identity of a certificate holds at each point, between the values of its polynomials.
 pub fn certificates_hold_at_points()
     ensures at { (q0 r0 : Meaning) (tops : List Meaning) (y : Meaning) (multipliers : ℕ → Meaning) (poles : Meaning)
-        → CertificateIdentity (level 1).ops q0 r0 tops y multipliers poles → (n k : ℤ) → HoldsAt q0 r0 tops y multipliers poles n k }
+        → CertificateIdentity (level 1).ops q0 r0 tops y multipliers poles → (p : Point) → HoldsAt q0 r0 tops y multipliers poles p }
 {}
