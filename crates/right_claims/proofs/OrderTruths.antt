@@ -1,10 +1,10 @@
 -- Found and empty orders hold of every function that has the value of the term.
 use Rattle.std.proofs.Common.{◌≡◌, ℕ, zero, suc, ◌-◌, ◌<◌, List, length, ap, sym, ◌∙◌, subst, arith}
 use Rattle.std.specs.List.{AllByRecursion}
-use Rattle.std.specs.Prelude.{ℤ}
 use Rattle.std.proofs.lemmas.List.{length-map}
 use Rattle.ring_laws.specs.Meaning.{Meaning}
 use Rattle.poly_laws.specs.Values.{level}
+use Rattle.hypergeometric.specs.Point.{Point}
 use Rattle.hypergeometric.specs.Fraction.{Fraction}
 use Rattle.hypergeometric.specs.ProperTerm.{ProperTerm}
 use Rattle.hypergeometric.specs.TermFacts.{IsProper}
@@ -56,7 +56,7 @@ some_multiplier pieces normal tops count c size h all =
     (subst (AllByRecursion (λ a. a ≡ (level 1).ops.nought)) (multipliers_listed pieces normal tops count c size h) all)
     (h.free - coefficient_count h.bound) (omega (arith, ends.within, size, length-map tops ((level 2).ops.product (list_polynomial normal.g)))))
 
-module _ (f : ProperTerm) (value : ℤ → ℤ → Fraction) (proper : IsProper f) (has : HasValue f value) where
+module _ (f : ProperTerm) (value : Point → Fraction) (proper : IsProper f) (has : HasValue f value) where
   pub found_holds : (order : ℕ) (form : PrintedForm) (c : Claim) (range : Range) → IsFoundOrder f order form c range → IsTrueFound f value c range
   found_holds order form c range h = record {
     telescopes = certified_telescopes f value h.pieces order c proper has h.setting.are_pieces certified;

@@ -1,9 +1,9 @@
 -- Pairs hold of every function that has the value of the term, and where there is none, none is.
 use Rattle.std.proofs.Common.{◌≡◌, List, [], ◌∷◌, refl, ap, sym, ◌∙◌, subst}
 use Rattle.std.specs.List.{AllByRecursion}
-use Rattle.std.specs.Prelude.{ℤ}
 use Rattle.ring_laws.specs.Meaning.{Meaning}
 use Rattle.poly_laws.specs.Values.{level}
+use Rattle.hypergeometric.specs.Point.{Point}
 use Rattle.hypergeometric.specs.Fraction.{Fraction}
 use Rattle.hypergeometric.specs.ProperTerm.{ProperTerm}
 use Rattle.hypergeometric.specs.TermFacts.{IsProper}
@@ -28,7 +28,7 @@ use Rattle.right_claims.proofs.LeftClaims.{y, multipliers, multipliers_listed, l
 use Rattle.right_claims.proofs.OnePieces.{one_normal, one_pair_top}
 use Rattle.right_claims.proofs.OrderTruths.{solves, some_multiplier}
 
-module _ (f : ProperTerm) (value : ℤ → ℤ → Fraction) (proper : IsProper f) (has : HasValue f value) where
+module _ (f : ProperTerm) (value : Point → Fraction) (proper : IsProper f) (has : HasValue f value) where
   pub pair_holds : (form : PrintedForm) (c : Claim) (range : Range) → IsPairOrder f form c range → (a : Meaning) → c.multipliers ≡ a ∷ []
       → IsTruePair f value c range a
   pair_holds form c range h a one = record {

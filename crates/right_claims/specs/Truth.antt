@@ -1,8 +1,9 @@
--- What right claims say of a function that has the value of the term, at all whole n and k where it is defined.
-use Rattle.std.specs.Prelude.{◌≡◌, ℕ, ℤ, List, [], ◌∷◌, Some}
+-- What right claims say of a function that has the value of the term, at all points where it is defined.
+use Rattle.std.specs.Prelude.{◌≡◌, ℕ, List, [], ◌∷◌, Some}
 use Rattle.std.specs.List.{AllByRecursion}
 use Rattle.ring_laws.specs.Meaning.{Meaning}
 use Rattle.poly_laws.specs.Values.{level}
+use Rattle.hypergeometric.specs.Point.{Point}
 use Rattle.hypergeometric.specs.Fraction.{Fraction}
 use Rattle.hypergeometric.specs.LinearForm.{LinearForm}
 use Rattle.hypergeometric.specs.ProperTerm.{ProperTerm}
@@ -24,7 +25,7 @@ abbrev pub HasNonzero : List Meaning → Type 0
 HasNonzero multipliers = ¬ (AllByRecursion (λ a. a ≡ (level 1).ops.nought) multipliers)
 
 -- a found claim telescopes the term, its sums over the printed range satisfy the recurrence, and some multiplier isn't zero
-pub record IsTrueFound (f : ProperTerm) (value : ℤ → ℤ → Fraction) (c : Claim) (range : Range) : Type 0 where
+pub record IsTrueFound (f : ProperTerm) (value : Point → Fraction) (c : Claim) (range : Range) : Type 0 where
   pub telescopes : Telescopes value f.poly c
   pub sums : (ends : LinearForm × LinearForm) → range ≡ Some ends → NaturalSumsVanish value (ends_of ends) c
   pub some : HasNonzero c.multipliers
@@ -37,7 +38,7 @@ pub record IsTrueEmpty (f : ProperTerm) (order : ℕ) (form : PrintedForm) (piec
   pub no_certificate : (tops : List (Polynomial (level 1))) → meanings (level 1) tops ≡ tops_of pieces order → HasNoCertificate pieces tops
 
 -- a pair is one with its multiplier, and so has the companion identity
-pub record IsTruePair (f : ProperTerm) (value : ℤ → ℤ → Fraction) (c : Claim) (range : Range) (a : Meaning) : Type 0 where
+pub record IsTruePair (f : ProperTerm) (value : Point → Fraction) (c : Claim) (range : Range) (a : Meaning) : Type 0 where
   pub pair : IsPair value f.poly a c
   pub companion : HasCompanion value a c
   pub sums : (ends : LinearForm × LinearForm) → range ≡ Some ends → PairSumsVanish value (ends_of ends) a c
@@ -50,7 +51,7 @@ pub record IsTrueNoPair (form : PrintedForm) (pieces : Pieces) (normal : Normal)
   pub no_certificate : (tops : List (Polynomial (level 1))) → meanings (level 1) tops ≡ pair_top pieces → HasNoCertificate pieces tops
 
 -- what a claim says
-abbrev pub Holds : ProperTerm → (ℤ → ℤ → Fraction) → TermClaim → Type 0
+abbrev pub Holds : ProperTerm → (Point → Fraction) → TermClaim → Type 0
 Holds f value (found order form c range) = IsTrueFound f value c range
 Holds f value (empty order form) = (pieces : Pieces) (normal : Normal) → ArePiecesOf pieces f order → IsNormalFormOf normal pieces.q0 pieces.r0
     → IsTrueEmpty f order form pieces normal

@@ -4,8 +4,9 @@
 //! what their choice is good for. The functions here do nothing: the contract of each is a law.
 #![tactic(auto)]
 
-ghost use Rattle.std.specs.Prelude.{◌≡◌, ℕ, ℤ, List};
+ghost use Rattle.std.specs.Prelude.{◌≡◌, ℕ, List};
 ghost use Rattle.std.specs.List.{AllByRecursion};
+ghost use Rattle.hypergeometric.specs.Point.{Point};
 ghost use Rattle.hypergeometric.specs.Fraction.{Fraction};
 ghost use Rattle.hypergeometric.specs.ProperTerm.{ProperTerm};
 ghost use Rattle.hypergeometric.specs.TermFacts.{IsProper};
@@ -18,7 +19,7 @@ ghost use Rattle.right_claims.specs.Choice.{IsWellChosen};
 /// Each right claim holds of every function that has the value of the term: what is found telescopes it, an empty order has no solution and no
 /// rational certificate, and a pair is one, with its companion identity.
 pub fn right_claims_hold()
-    ensures hold { (command : Command) (f : ProperTerm) (value : ℤ → ℤ → Fraction) (claims : List TermClaim) → IsProper f → HasValue f value
+    ensures hold { (command : Command) (f : ProperTerm) (value : Point → Fraction) (claims : List TermClaim) → IsProper f → HasValue f value
         → AreRightClaims command f claims → AllByRecursion (Holds f value) claims }
 {}
 
