@@ -10,7 +10,7 @@ use Rattle.hypergeometric.specs.Claim.{Claim, left_side, shifted_sum, AllDefined
 use Rattle.hypergeometric.specs.Telescopes.{Telescopes, TelescopesAtPoints, HasRatio}
 use Rattle.hypergeometric.proofs.RangeSums.{ranges_from_points}
 use Rattle.term_classes.specs.ClassValues.{HasValue}
-use Rattle.term_pieces.specs.Pieces.{Pieces, ArePiecesOf}
+use Rattle.term_pieces.specs.Pieces.{Pieces, ArePiecesOf, top_at}
 use Rattle.term_pieces.specs.PieceValues.{top_value}
 use Rattle.term_pieces.proofs.Splits.{times_common}
 use Rattle.claim_laws.specs.Identity.{sum_of_tops}
@@ -36,19 +36,19 @@ module _ (f : ProperTerm) (value : Point → Fraction) (pieces : Pieces) (order 
   -- the left side is a multiple of the one value
   left_multiple : (p : Point) (h : AllDefined value c.multipliers p)
       → left_side value c p
-      ≈ times_common (sum_of_multiples (λ j. top_value (pieces.top j) p) c.multipliers p 0)
+      ≈ times_common (sum_of_multiples (λ j. top_value (top_at pieces j) p) c.multipliers p 0)
       (common f value pieces order c parts has are goes p (defined_up_to p h))
   left_multiple p h =
       let place : p.n +ℤ pos 0 ≡ p.n = omega (arith, ints) in
       let defined = defined_up_to p h in
       let one = common f value pieces order c parts has are goes p defined in
       subst (λ m. shifted_sum value c.multipliers p (record p { n = m })
-      ≈ times_common (sum_of_multiples (λ j. top_value (pieces.top j) p) c.multipliers p 0) one) place
-      (multiples_add_up value (λ j. top_value (pieces.top j) p) one p
+      ≈ times_common (sum_of_multiples (λ j. top_value (top_at pieces j) p) c.multipliers p 0) one) place
+      (multiples_add_up value (λ j. top_value (top_at pieces j) p) one p
       (common_defined f value pieces order c parts has are goes p defined) c.multipliers 0
       (λ i l u. term_multiple f value pieces order c parts has are goes p defined i (omega (arith, u, count))))
 
-  module _ (identity : (p : Point) → IdentityAt p pieces c (sum_of_multiples (λ j. top_value (pieces.top j) p) c.multipliers p 0)) where
+  module _ (identity : (p : Point) → IdentityAt p pieces c (sum_of_multiples (λ j. top_value (top_at pieces j) p) c.multipliers p 0)) where
     points_hold : TelescopesAtPoints value c
     points_hold p h here next =
         let defined = defined_up_to p h in
@@ -56,7 +56,7 @@ module _ (f : ProperTerm) (value : Point → Fraction) (pieces : Pieces) (order 
           carrier_here = carrier_here f value pieces order c parts has are goes p defined;
           carrier_next = carrier_next f value pieces order c parts has are goes p defined;
           equal = difference_of_certificates f value pieces order c parts has are goes p defined
-              (sum_of_multiples (λ j. top_value (pieces.top j) p) c.multipliers p 0) (left_side value c p) (identity p) here next
+              (sum_of_multiples (λ j. top_value (top_at pieces j) p) c.multipliers p 0) (left_side value c p) (identity p) here next
               (left_multiple p h);
         }
 
@@ -74,5 +74,5 @@ pub certified_telescopes : (f : ProperTerm) (value : Point → Fraction) (pieces
     → ArePiecesOf pieces f order → IsCertified c pieces order → Telescopes value f.poly c
 certified_telescopes f value pieces order c proper has are certified =
     claim_telescopes f value pieces order c (has_fractions f proper) has are certified.goes_with certified.count
-    (λ p. subst (λ s. IdentityAt p pieces c s) (tops_are p pieces.top c.multipliers 0)
-    (identity_at p pieces c (sum_of_tops pieces.top c.multipliers 0) certified.identity))
+    (λ p. subst (λ s. IdentityAt p pieces c s) (tops_are p (top_at pieces) c.multipliers 0)
+    (identity_at p pieces c (sum_of_tops (top_at pieces) c.multipliers 0) certified.identity))

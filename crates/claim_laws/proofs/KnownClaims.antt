@@ -47,7 +47,7 @@ top (suc j) = record { poly = one; factors = list_with (pos 1) (factor_with (wit
 -- q0 = n - k + 1 and r0 = k + 1
 abbrev pieces : Pieces
 pieces = record {
-  top = top;
+  tops = top 0 ∷ top 1 ∷ [];
   q0 = list_with (negsuc 0) falling;
   r0 = list_with (pos 1) (factor_with (with_numbers (pos 0) (pos 1) (pos 1)) 1);
   carrier = carrier_of binomial 1;
@@ -78,7 +78,7 @@ divided = record binomial { over = factor_with (with_numbers (pos 0) (pos 1) (po
 -- q0 = (n - k + 1)(k + 1) and r0 = (k + 1)(k + 2); the tops are those above
 abbrev divided_pieces : Pieces
 divided_pieces = record {
-  top = top;
+  tops = top 0 ∷ top 1 ∷ [];
   q0 = record { scale = negsuc 0; factors = falling ∷ factor_with (with_numbers (pos 0) (pos 1) (pos 1)) 1 ∷ [] };
   r0 = record {
     scale = pos 1;

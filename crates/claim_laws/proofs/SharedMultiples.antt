@@ -12,7 +12,7 @@ use Rattle.hypergeometric.proofs.FractionLaws.{one_not_zero, equal_to_itself, eq
 use Rattle.term_classes.specs.ClassValues.{HasValue}
 use Rattle.term_classes.proofs.FractionPowers.{fraction_with}
 use Rattle.term_classes.proofs.SameValues.{times_zero}
-use Rattle.term_pieces.specs.Pieces.{Pieces, ArePiecesOf}
+use Rattle.term_pieces.specs.Pieces.{Pieces, ArePiecesOf, top_at}
 use Rattle.term_pieces.specs.PieceValues.{top_value, ShareValue}
 use Rattle.term_pieces.proofs.SharedValues.{pieces_share}
 use Rattle.term_pieces.proofs.NumberSplits.{later_poly_value}
@@ -38,7 +38,7 @@ module _ (f : ProperTerm) (value : Point → Fraction) (pieces : Pieces) (order 
   pub common_defined : IsDefined common
   common_defined z = (share.tops 0 (omega arith)).right_defined (ap (λ b. pos 1 *ℤ b) z ∙ times_zero (pos 1))
 
-  pub term_multiple : (j : ℕ) → j ≤ order → value (later_n p (pos j)) ≈ times_common (top_value (pieces.top j) p) common
+  pub term_multiple : (j : ℕ) → j ≤ order → value (later_n p (pos j)) ≈ times_common (top_value (top_at pieces j) p) common
   term_multiple j l = equal_chain (equal_turned (has.equal (later_n p (pos j)) (term_defined j l))) (share.tops j l)
 
   pub carrier_here : IsDefinedAt c.carrier p
@@ -76,17 +76,17 @@ module _ (f : ProperTerm) (value : Point → Fraction) (pieces : Pieces) (order 
   place : p.n +ℤ pos 0 ≡ p.n
   place = omega (arith, ints)
 
-  first_multiple : value p ≈ times_common (top_value (pieces.top 0) p) common
-  first_multiple = subst (λ m. value (record p { n = m }) ≈ times_common (top_value (pieces.top 0) p) common) place (term_multiple 0 (omega arith))
+  first_multiple : value p ≈ times_common (top_value (top_at pieces 0) p) common
+  first_multiple = subst (λ m. value (record p { n = m }) ≈ times_common (top_value (top_at pieces 0) p) common) place (term_multiple 0 (omega arith))
 
   -- the numbers that the ratio names, by the pieces
-  bottom_is : factor_list_value (pieces.top 0).factors p ≡ factor_list_value c.ratio_bottom p
+  bottom_is : factor_list_value (top_at pieces 0).factors p ≡ factor_list_value c.ratio_bottom p
   bottom_is = ap (λ l. factor_list_value l p) (sym goes.ratio_bottom)
 
   top_is : factor_list_value pieces.r0 (later_k p (negsuc 0)) ≡ factor_list_value c.ratio_top p
   top_is = sym (ap (λ l. factor_list_value l p) goes.ratio_top ∙ list_later pieces.r0 (negsuc 0) p)
 
-  poly_is : poly_value (pieces.top 0).poly p ≡ poly_value f.poly p
+  poly_is : poly_value (top_at pieces 0).poly p ≡ poly_value f.poly p
   poly_is = ap (λ e. poly_value e p) (are.poly 0 (omega arith)) ∙ later_poly_value f.poly 0 p ∙ ap (λ m. poly_value f.poly (record p { n = m })) place
 
   -- G Rbot P D = F Rtop Y
@@ -95,8 +95,8 @@ module _ (f : ProperTerm) (value : Point → Fraction) (pieces : Pieces) (order 
       ≈ fraction_product (value p) (of_whole (factor_list_value c.ratio_top p *ℤ poly_value c.y p))
   ratio_holds off =
       let r = factor_list_value pieces.r0 (later_k p (negsuc 0)) in
-      let e = poly_value (pieces.top 0).poly p in
-      let b = factor_list_value (pieces.top 0).factors p in
+      let e = poly_value (top_at pieces 0).poly p in
+      let b = factor_list_value (top_at pieces 0).factors p in
       let by_pieces = equal_chain (equal_products (certificate_here off) (equal_to_itself (of_whole (b *ℤ e *ℤ poles_value c p)) one_not_zero))
       (equal_chain (ratio_of_multiples common r e b (poly_value c.y p) (poles_value c p) common_defined off)
       (equal_products (equal_turned first_multiple) (equal_to_itself (of_whole (r *ℤ poly_value c.y p)) one_not_zero))) in

@@ -7,9 +7,9 @@ use Rattle.std.specs.Prelude.{ℤ, pos, negsuc, ◌+ℤ◌, ◌*ℤ◌, ◌<ℤ�
 use Rattle.ring_solver.proofs.Read.{ring_z, reading_z}
 use Rattle.ring_laws.specs.Meaning.{Meaning, number, listed}
 use Rattle.poly_laws.specs.Values.{level}
-use Rattle.hypergeometric.specs.ProperTerm.{value_in_n}
 use Rattle.poly_divide.specs.Forms.{linear}
 use Rattle.whole_roots.specs.LinearFactors.{PowerDivides, form_power, AreLinearFactors}
+use Rattle.hyper_laws.specs.Recurrences.{value_at_n}
 use Rattle.hyper_laws.proofs.Values.{product_value}
 
 abbrev pub one : Meaning
@@ -29,13 +29,13 @@ great (suc u) (negsuc k) b = (negsuc 0, bigger (negsuc k +ℤ negsuc 0 *ℤ pos 
     bigger : (x : ℤ) → x <ℤ negsuc 0 → 2 ≤ unsigned_abs x
     bigger x c = omega (arith, ints, c)
 
-no_factor_of : (f : Meaning) (w : ℤ) → unsigned_abs w ≡ 1 → ((n : ℤ) → value_in_n f n ≡ w) → (u : ℕ) (v : ℤ) → 1 ≤ u → PowerDivides u v 1 f → ⊥
+no_factor_of : (f : Meaning) (w : ℤ) → unsigned_abs w ≡ 1 → ((n : ℤ) → value_at_n f n ≡ w) → (u : ℕ) (v : ℤ) → 1 ≤ u → PowerDivides u v 1 f → ⊥
 no_factor_of f w e h u v b d =
     let far = great u v b in
     let n : ℤ = far.0 in
-    let x : ℤ = value_in_n d.quotient.0 n in
+    let x : ℤ = value_at_n d.quotient.0 n in
     let product : w ≡ x *ℤ (v +ℤ n *ℤ pos u) =
-    sym (ap (λ g. value_in_n g n) d.is ∙ h n) ∙ product_value d.quotient.0 (form_power u v 1) n
+    sym (ap (λ g. value_at_n g n) d.is ∙ h n) ∙ product_value d.quotient.0 (form_power u v 1) n
     ∙ ap (λ t. x *ℤ t) (product_value (level 1).ops.unit (linear (pos u) v) n ∙ plain n (pos u) v) in
     let divides : unsigned_abs (v +ℤ n *ℤ pos u) ∣ 1 =
     subst (λ t. unsigned_abs (v +ℤ n *ℤ pos u) ∣ t) (sym (unsigned_abs-mul x (v +ℤ n *ℤ pos u)) ∙ ap unsigned_abs (sym product) ∙ e)

@@ -9,7 +9,7 @@ use Rattle.ring_solver.proofs.Read.{ring_z, reading_z}
 use Rattle.ring_laws.specs.Meaning.{Meaning, number, listed}
 use Rattle.ring_laws.specs.Algebra.{Passing}
 use Rattle.poly_laws.specs.Values.{level}
-use Rattle.hypergeometric.specs.ProperTerm.{value_in_n}
+use Rattle.hyper_laws.specs.Recurrences.{value_at_n}
 use Rattle.hyper_laws.specs.PolynomialSolutions.{Solves, combination, IsCombinationOf, AreComplete}
 use Rattle.hyper_laws.specs.DegreeBounds.{HasDegree, coefficient_in_n}
 use Rattle.hyper_laws.specs.ReducedLists.{IsPrimitive, HasPositiveLead, AreReduced}
@@ -22,30 +22,30 @@ abbrev steady : List Meaning
 steady = listed (number (negsuc 0) ∷ []) ∷ one ∷ []
 
 module _ (c : Passing (level 1)) (h : Solves steady c.0) where
-  stays : (n : ℤ) → value_in_n c.0 (n +ℤ pos 1) ≡ value_in_n c.0 n
-  stays n = omega (arith, ints, sym (difference n (value_in_n c.0 n) (value_in_n c.0 (n +ℤ pos 1))) ∙ solves_values steady c.0 h n)
+  stays : (n : ℤ) → value_at_n c.0 (n +ℤ pos 1) ≡ value_at_n c.0 n
+  stays n = omega (arith, ints, sym (difference n (value_at_n c.0 n) (value_at_n c.0 (n +ℤ pos 1))) ∙ solves_values steady c.0 h n)
     where
       difference : (n x y : ℤ) → (negsuc 0 +ℤ n *ℤ pos 0) *ℤ x +ℤ ((pos 1 +ℤ n *ℤ pos 0) *ℤ y +ℤ pos 0) ≡ y -ℤ x
       difference n x y = ring_z (n ∷ x ∷ y ∷ []) (search reading_z depth 40 fits 20000) refl
 
-  from_before : (m n : ℤ) → m +ℤ pos 1 ≡ n → value_in_n c.0 n ≡ value_in_n c.0 m
-  from_before m n e = ap (value_in_n c.0) (sym e) ∙ stays m
+  from_before : (m n : ℤ) → m +ℤ pos 1 ≡ n → value_at_n c.0 n ≡ value_at_n c.0 m
+  from_before m n e = ap (value_at_n c.0) (sym e) ∙ stays m
 
-  above : (k : ℕ) → value_in_n c.0 (pos k) ≡ value_in_n c.0 (pos 0)
+  above : (k : ℕ) → value_at_n c.0 (pos k) ≡ value_at_n c.0 (pos 0)
   above zero = refl
   above (suc k) = from_before (pos k) (pos (suc k)) (omega (arith, ints)) ∙ above k
 
-  below : (k : ℕ) → value_in_n c.0 (negsuc k) ≡ value_in_n c.0 (pos 0)
+  below : (k : ℕ) → value_at_n c.0 (negsuc k) ≡ value_at_n c.0 (pos 0)
   below zero = sym (from_before (negsuc 0) (pos 0) refl)
   below (suc k) = sym (from_before (negsuc (suc k)) (negsuc k) (omega (arith, ints))) ∙ below k
 
-  constant : (n : ℤ) → value_in_n c.0 n ≡ value_in_n c.0 (pos 0)
+  constant : (n : ℤ) → value_at_n c.0 n ≡ value_at_n c.0 (pos 0)
   constant (pos k) = above k
   constant (negsuc k) = below k
 
   multiple : IsCombinationOf (one ∷ []) c.0
   multiple =
-      let w : ℤ = value_in_n c.0 (pos 0) in
+      let w : ℤ = value_at_n c.0 (pos 0) in
       record {
         factor = pos 1;
         not_zero = λ e. omega (arith, ints, e);
@@ -65,7 +65,7 @@ constants = record { each = (refl, tt); all = multiple; independent = independen
     single x = ring_z (x ∷ []) (search reading_z depth 40 fits 20000) refl
 
     independent : (m : ℕ → ℤ) → combination m (one ∷ []) ≡ (level 1).ops.nought → (k : ℕ) → k < 1 → m k ≡ pos 0
-    independent m z zero b = sym (single (m 0)) ∙ sym (combination_value m (one ∷ []) (pos 0)) ∙ ap (λ f. value_in_n f (pos 0)) z
+    independent m z zero b = sym (single (m 0)) ∙ sym (combination_value m (one ∷ []) (pos 0)) ∙ ap (λ f. value_at_n f (pos 0)) z
     independent m z (suc k) b = absurd (omega (arith, b))
 
 reduced_constants : AreReduced (one ∷ [])

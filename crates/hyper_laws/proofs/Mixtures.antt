@@ -7,7 +7,7 @@ use Rattle.std.specs.Prelude.{ℤ, pos, negsuc, ◌+ℤ◌, ◌-ℤ◌, ◌*ℤ�
 use Rattle.ring_solver.proofs.Read.{ring_z, reading_z}
 use Rattle.ring_laws.specs.Meaning.{Meaning, items}
 use Rattle.poly_laws.specs.Values.{level}
-use Rattle.hypergeometric.specs.ProperTerm.{value_in_n}
+use Rattle.hyper_laws.specs.Recurrences.{value_at_n}
 use Rattle.hyper_laws.specs.PolynomialSolutions.{IsCombinationOf}
 use Rattle.hyper_laws.proofs.Sums.{sum_same, sum_none, sum_added, sum_scaled, none_times}
 use Rattle.hyper_laws.proofs.Independent.{each_is_zero}
@@ -74,7 +74,7 @@ mixture_of ds c w = record {
       (λ j b. grouped w.factor (at_power (items c) j) (pow n j))
       ∙ sum_scaled count w.factor (λ j. at_power (items c) j *ℤ pow n j)
       ∙ ap (λ z. w.factor *ℤ z) (sym (horner_powers (items c) count n (omega arith))) ∙ sym (multiple_value w.factor c n)
-      ∙ ap (λ f. value_in_n f n) w.is ∙ combination_value w.by ds n ∙ mixed_powers ds w.by count n (omega arith)) k (omega arith);
+      ∙ ap (λ f. value_at_n f n) w.is ∙ combination_value w.by ds n ∙ mixed_powers ds w.by count n (omega arith)) k (omega arith);
 }
   where
     grouped : (x y z : ℤ) → (x *ℤ y) *ℤ z ≡ x *ℤ (y *ℤ z)

@@ -8,9 +8,8 @@ use Rattle.ring_solver.specs.Ranges.{size_of}
 use Rattle.ring_solver.proofs.Read.{ring_z, reading_z}
 use Rattle.ring_laws.specs.Meaning.{Meaning}
 use Rattle.hypergeometric.specs.Fraction.{Fraction, IsDefined, ◌≈◌, of_whole, fraction_sum, fraction_product, natural_power, whole_power}
-use Rattle.hypergeometric.specs.ProperTerm.{value_in_n}
 use Rattle.hypergeometric.proofs.FractionLaws.{one_not_zero, product_not_zero, equal_to_itself, equal_chain, equal_sums}
-use Rattle.hyper_laws.specs.Recurrences.{left_side, Satisfies}
+use Rattle.hyper_laws.specs.Recurrences.{value_at_n, left_side, Satisfies}
 use Rattle.hyper_laws.specs.PolynomialSolutions.{Solves}
 use Rattle.hyper_laws.specs.Cases.{Case, case_equation}
 use Rattle.hyper_laws.specs.Solutions.{product_over_range, step_at, solution_value, IsFreeOfZeros, IsFirstPlace}
@@ -69,21 +68,21 @@ module _ (k : Case) (c : Meaning) (from : ℤ) (bottom : k.z.bottom ≢ pos 0) (
   exchanged : (u x s a : ℤ) → (u *ℤ x) *ℤ (s *ℤ a) ≡ (x *ℤ s) *ℤ (u *ℤ a)
   exchanged u x s a = ring_z (u ∷ x ∷ s ∷ a ∷ []) (search reading_z depth 40 fits 20000) refl
 
-  top_step : (m : ℕ) → (factor (suc m)).top ≡ (factor m).top *ℤ (k.z.top *ℤ value_in_n k.a (from +ℤ pos m))
-  top_step m = exchanged k.z.top (natural_power k.z m).top (product_over_range (step_at k) from m).top (value_in_n k.a (from +ℤ pos m))
+  top_step : (m : ℕ) → (factor (suc m)).top ≡ (factor m).top *ℤ (k.z.top *ℤ value_at_n k.a (from +ℤ pos m))
+  top_step m = exchanged k.z.top (natural_power k.z m).top (product_over_range (step_at k) from m).top (value_at_n k.a (from +ℤ pos m))
 
-  bottom_step : (m : ℕ) → (factor (suc m)).bottom ≡ (factor m).bottom *ℤ (k.z.bottom *ℤ value_in_n k.b (from +ℤ pos m))
-  bottom_step m = exchanged k.z.bottom (natural_power k.z m).bottom (product_over_range (step_at k) from m).bottom (value_in_n k.b (from +ℤ pos m))
+  bottom_step : (m : ℕ) → (factor (suc m)).bottom ≡ (factor m).bottom *ℤ (k.z.bottom *ℤ value_at_n k.b (from +ℤ pos m))
+  bottom_step m = exchanged k.z.bottom (natural_power k.z m).bottom (product_over_range (step_at k) from m).bottom (value_at_n k.b (from +ℤ pos m))
 
   factor_defined : (m : ℕ) → IsDefined (factor m)
   factor_defined zero = one_not_zero
   factor_defined (suc m) = λ e.
-      product_not_zero (factor m).bottom (k.z.bottom *ℤ value_in_n k.b (from +ℤ pos m)) (factor_defined m)
-      (product_not_zero k.z.bottom (value_in_n k.b (from +ℤ pos m)) bottom (free (from +ℤ pos m) (omega (arith, ints)))) (sym (bottom_step m) ∙ e)
+      product_not_zero (factor m).bottom (k.z.bottom *ℤ value_at_n k.b (from +ℤ pos m)) (factor_defined m)
+      (product_not_zero k.z.bottom (value_at_n k.b (from +ℤ pos m)) bottom (free (from +ℤ pos m) (omega (arith, ints)))) (sym (bottom_step m) ∙ e)
 
-  y_at : (n : ℤ) (m : ℕ) → n -ℤ from ≡ pos m → y n ≡ fraction_product (of_whole (value_in_n c n)) (factor m)
+  y_at : (n : ℤ) (m : ℕ) → n -ℤ from ≡ pos m → y n ≡ fraction_product (of_whole (value_at_n c n)) (factor m)
   y_at n m e =
-      ap (λ d. fraction_product (of_whole (value_in_n c n))
+      ap (λ d. fraction_product (of_whole (value_at_n c n))
       (fraction_product (whole_power k.z d) (product_over_range (step_at k) from (size_of d)))) e
 
   module _ (n : ℤ) (m : ℕ) (place : n ≡ from +ℤ pos m) where
@@ -111,13 +110,13 @@ module _ (k : Case) (c : Meaning) (from : ℤ) (bottom : k.z.bottom ≢ pos 0) (
         let later_place : n +ℤ pos i ≡ from +ℤ pos (m + i) = omega (arith, ints, place) in
         let x : ℤ = term_value k.z.top k.z.bottom k.a k.b c p i (length ps) n in
         let rest : ℤ = case_sum k.z k.a k.b c (suc i) ps n in
-        let first : fraction_product (of_whole (value_in_n p n)) (y (n +ℤ pos i)) ≈ ratio (tops m *ℤ x) (bottoms (m + last)) =
-        subst (λ (f : Fraction). fraction_product (of_whole (value_in_n p n)) f ≈ ratio (tops m *ℤ x) (bottoms (m + last)))
+        let first : fraction_product (of_whole (value_at_n p n)) (y (n +ℤ pos i)) ≈ ratio (tops m *ℤ x) (bottoms (m + last)) =
+        subst (λ (f : Fraction). fraction_product (of_whole (value_at_n p n)) f ≈ ratio (tops m *ℤ x) (bottoms (m + last)))
         (sym (y_at (n +ℤ pos i) (m + i) here))
-        (term_equal (value_in_n p n) (value_in_n c (n +ℤ pos i)) (tops m) (pow k.z.top i) (pow k.z.bottom (length ps))
-        (product_from (value_in_n k.a) n i) (product_from (value_in_n k.b) (n +ℤ pos i) (length ps)) (bottoms (m + last)) (factor (m + i))
-        (ahead tops k.z.top (value_in_n k.a) from top_step m i n place)
-        (ap bottoms (sym ends) ∙ ahead bottoms k.z.bottom (value_in_n k.b) from bottom_step (m + i) (length ps) (n +ℤ pos i) later_place)
+        (term_equal (value_at_n p n) (value_at_n c (n +ℤ pos i)) (tops m) (pow k.z.top i) (pow k.z.bottom (length ps))
+        (product_from (value_at_n k.a) n i) (product_from (value_at_n k.b) (n +ℤ pos i) (length ps)) (bottoms (m + last)) (factor (m + i))
+        (ahead tops k.z.top (value_at_n k.a) from top_step m i n place)
+        (ap bottoms (sym ends) ∙ ahead bottoms k.z.bottom (value_at_n k.b) from bottom_step (m + i) (length ps) (n +ℤ pos i) later_place)
         (factor_defined (m + i)) (factor_defined (m + last))) in
         let others : left_side ps y n ((n +ℤ pos i) +ℤ pos 1) ≈ ratio (tops m *ℤ rest) (bottoms (m + last)) =
         subst (λ (z : ℤ). left_side ps y n z ≈ ratio (tops m *ℤ rest) (bottoms (m + last))) (sym next)
@@ -131,7 +130,7 @@ module _ (k : Case) (c : Meaning) (from : ℤ) (bottom : k.z.bottom ≢ pos 0) (
     at_place [] h = equal_to_itself (of_whole (pos 0)) one_not_zero
     at_place (p ∷ ps) h =
         let start : n +ℤ pos 0 ≡ n = omega (arith, ints) in
-        let sum : case_sum k.z k.a k.b c 0 (p ∷ ps) n ≡ pos 0 = ap (λ f. value_in_n f n) h in
+        let sum : case_sum k.z k.a k.b c 0 (p ∷ ps) n ≡ pos 0 = ap (λ f. value_at_n f n) h in
         equal_chain
         (subst (λ (z : ℤ). left_side (p ∷ ps) y n z ≈ ratio (tops m *ℤ case_sum k.z k.a k.b c 0 (p ∷ ps) n) (bottoms (m + length ps))) start
         (tail_is (p ∷ ps) 0 (length ps) (omega arith)))

@@ -5,7 +5,7 @@ use Rattle.ring_laws.specs.Meaning.{Meaning, number, listed, items}
 use Rattle.ring_laws.specs.Wholes.{number_of}
 use Rattle.poly_laws.specs.Lists.{coefficient_at}
 use Rattle.poly_laws.specs.Values.{level}
-use Rattle.hypergeometric.specs.ProperTerm.{value_in_n}
+use Rattle.hyper_laws.specs.Recurrences.{value_at_n}
 
 -- the binomial coefficient C(n,k)
 abbrev pub choose : ℕ → ℕ → ℕ
@@ -62,7 +62,7 @@ indicial_polynomial fs t = indicial_sum fs t (length fs)
 
 -- a number of at least 0 that is a root of the indicial polynomial, or -t-1
 abbrev pub IsCandidate : List Meaning → ℤ → ℕ → Type 0
-IsCandidate fs t degree = (value_in_n (indicial_polynomial fs t) (pos degree) ≡ pos 0) ⊎ (pos degree ≡ neg_ℤ t -ℤ pos 1)
+IsCandidate fs t degree = (value_at_n (indicial_polynomial fs t) (pos degree) ≡ pos 0) ⊎ (pos degree ≡ neg_ℤ t -ℤ pos 1)
 
 -- the greatest candidate, or that there is none
 abbrev pub IsGreatestCandidate : List Meaning → ℤ → Option ℕ → Type 0

@@ -16,10 +16,10 @@ ghost use Rattle.poly_laws.specs.Shift.{poly_shift};
 ghost use Rattle.poly_laws.specs.Values.{level};
 ghost use Rattle.kernel_laws.specs.Rows.{entry_at, InKernel};
 ghost use Rattle.kernel_laws.specs.Answers.{Basis};
+ghost use Rattle.hypergeometric.specs.Point.{point};
 ghost use Rattle.hypergeometric.specs.Fraction.{Fraction};
 ghost use Rattle.hypergeometric.specs.LinearForm.{Factor, forms_value};
-ghost use Rattle.hypergeometric.specs.ProperTerm.{value_in_n};
-ghost use Rattle.hyper_laws.specs.Recurrences.{Satisfies};
+ghost use Rattle.hyper_laws.specs.Recurrences.{value_at_n, Satisfies};
 ghost use Rattle.hyper_laws.specs.PolynomialSolutions.{Solves, AreComplete, SameUpToSign};
 ghost use Rattle.hyper_laws.specs.Cases.{Case, case_polynomials, case_equation, IsBarren, IsGreatestDegree, lead_sum, lead_polynomial, IsLeadRoot, IsInProfile, HasNoRoot};
 ghost use Rattle.hyper_laws.specs.Solutions.{IsFreeOfZeros, IsFirstPlace, IsSolution, solution_value};
@@ -44,7 +44,7 @@ pub fn first_places_are_free()
 
 /// The value of a product of forms in n is the product of the values of the forms.
 pub fn factor_products_have_values()
-    ensures value { (factors : List Factor) (n : ℤ) → value_in_n (product_of_factors factors) n ≡ forms_value factors n (pos 0) }
+    ensures value { (factors : List Factor) (n : ℤ) → value_at_n (product_of_factors factors) n ≡ forms_value factors (point n (pos 0)) }
 {}
 
 /// A polynomial that isn't zero solves a case only where z is a root of the leading coefficients; so where there is no root, each case of
@@ -58,7 +58,7 @@ pub fn solutions_need_roots()
 
     // For each v the whole roots u of one polynomial are the tops of the roots u/v.
     ensures tops { (degree : ℕ) (z : Fraction) (fs : List Meaning)
-        → value_in_n (lead_polynomial degree z.bottom fs) z.top ≡ lead_sum degree z 0 fs }
+        → value_at_n (lead_polynomial degree z.bottom fs) z.top ≡ lead_sum degree z 0 fs }
 {}
 
 /// The degree of a polynomial solution is at most the greatest candidate (A=B 8.3), and where there is no candidate each solution is zero.

@@ -49,9 +49,9 @@ top (suc j) = record {
 
 -- the two polynomials of the order 1
 known_tops : (carrier : ProperTerm) (q0 r0 : FactorList)
-    → tops_of (record { top = top; q0 = q0; r0 = r0; carrier = carrier }) 1 ≡ tops
+    → tops_of (record { tops = top 0 ∷ top 1 ∷ []; q0 = q0; r0 = r0; carrier = carrier }) 1 ≡ tops
 known_tops carrier q0 r0 = refl
 
 known_pair : (carrier : ProperTerm) (q0 r0 : FactorList)
-    → pair_top (record { top = top; q0 = q0; r0 = r0; carrier = carrier }) ≡ listed (listed [] ∷ in_n 1 ∷ []) ∷ []
+    → pair_top (record { tops = top 0 ∷ top 1 ∷ []; q0 = q0; r0 = r0; carrier = carrier }) ≡ listed (listed [] ∷ in_n 1 ∷ []) ∷ []
 known_pair carrier q0 r0 = refl

@@ -3,7 +3,7 @@ use Rattle.std.specs.Prelude.{ℕ, suc, List, [], ◌∷◌, map}
 use Rattle.ring_laws.specs.Meaning.{Meaning}
 use Rattle.poly_laws.specs.Values.{level}
 use Rattle.lin_form.specs.Products.{list_polynomial}
-use Rattle.term_pieces.specs.Pieces.{Pieces}
+use Rattle.term_pieces.specs.Pieces.{Pieces, top_at}
 use Rattle.term_pieces.specs.Tops.{top_polynomial}
 use Rattle.normal_forms.specs.NormalForm.{Normal}
 use Rattle.key_laws.specs.KeyEquation.{Insoluble}
@@ -11,11 +11,11 @@ use Rattle.key_laws.specs.KeyRows.{listing}
 
 -- p_0, .., p_J
 abbrev pub tops_of : Pieces → ℕ → List Meaning
-tops_of pieces order = listing (suc order) (λ j. top_polynomial (pieces.top j))
+tops_of pieces order = listing (suc order) (λ j. top_polynomial (top_at pieces j))
 
 -- the one polynomial of a pair, p_1 - p_0
 abbrev pub pair_top : Pieces → List Meaning
-pair_top pieces = (level 2).ops.sum (top_polynomial (pieces.top 1)) ((level 2).ops.neg (top_polynomial (pieces.top 0))) ∷ []
+pair_top pieces = (level 2).ops.sum (top_polynomial (top_at pieces 1)) ((level 2).ops.neg (top_polynomial (top_at pieces 0))) ∷ []
 
 -- the sides of the key equation of a normal form: g times each of the polynomials
 abbrev pub sides_of : Normal → List Meaning → List Meaning

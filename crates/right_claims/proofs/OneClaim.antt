@@ -7,7 +7,7 @@ use Rattle.key_laws.specs.KeyRows.{listing}
 use Rattle.term_pieces.specs.Tops.{top_polynomial}
 use Rattle.hypergeometric.specs.ProperTerm.{ProperTerm}
 use Rattle.hypergeometric.specs.Claim.{Claim}
-use Rattle.term_pieces.specs.Pieces.{Top, Pieces}
+use Rattle.term_pieces.specs.Pieces.{Top, Pieces, top_at}
 use Rattle.normal_forms.specs.NormalForm.{Normal}
 use Rattle.key_laws.specs.KeyEquation.{InsolubleWith}
 use Rattle.pole_laws.specs.Orders.{sides_of, tops_of, IsInsolubleOrder, IsInsolublePair, pair_top}
@@ -41,7 +41,7 @@ module _ (pieces other : Pieces) (normal : Normal) (tops : List Meaning) (count 
 
 -- so the claims are the same, where the pieces agree
 one_left : (pieces other : Pieces) (normal : Normal) (tops : List Meaning) (count : ℕ) (c d : Claim) → pieces.carrier ≡ other.carrier
-    → pieces.r0 ≡ other.r0 → pieces.top 0 ≡ other.top 0 → IsLeftBy pieces normal tops count c → IsLeftBy other normal tops count d → c ≡ d
+    → pieces.r0 ≡ other.r0 → top_at pieces 0 ≡ top_at other 0 → IsLeftBy pieces normal tops count c → IsLeftBy other normal tops count d → c ≡ d
 one_left pieces other normal tops count c d carriers r0s tops0 h k = λ i. record {
   multipliers = multipliers_agree pieces other normal tops count c d h k i;
   carrier = (h.goes_with.carrier ∙ carriers ∙ sym k.goes_with.carrier) i;
@@ -100,7 +100,7 @@ one_no_pair f form other h k = forms_agree f 1 h.pieces k.pieces h.normal k.norm
 pub not_found : (f : ProperTerm) (order : ℕ) (form other : PrintedForm) (c : Claim) (range : Range) → IsEmptyOrder f order form
     → IsFoundOrder f order other c range → ⊥
 not_found f order form other c range h k =
-    soluble k.pieces k.normal (tops_of k.pieces order) (suc order) c (listing_length (suc order) (λ j. top_polynomial (k.pieces.top j))) k.left_by
+    soluble k.pieces k.normal (tops_of k.pieces order) (suc order) c (listing_length (suc order) (λ j. top_polynomial (top_at k.pieces j))) k.left_by
     (subst (λ n. IsInsolubleOrder k.pieces n order) (normals f order h.pieces k.pieces h.normal k.normal form other h.setting k.setting)
     (subst (λ ts. InsolubleWith (level 1) (q_of h.normal) (b_of h.normal) (sides_of h.normal ts))
     (one_tops f order h.pieces k.pieces h.setting.are_pieces k.setting.are_pieces) h.insoluble))

@@ -1,7 +1,7 @@
 -- The pieces of a term at an order agree in all that is used of them: q0, r0, the carrier, and the tops p_0 to p_J.
 use Rattle.std.proofs.Common.{◌≡◌, ℕ, suc, ap, sym, subst, arith}
 use Rattle.hypergeometric.specs.ProperTerm.{ProperTerm}
-use Rattle.term_pieces.specs.Pieces.{Pieces, ArePiecesOf}
+use Rattle.term_pieces.specs.Pieces.{Pieces, ArePiecesOf, top_at}
 use Rattle.term_pieces.proofs.OnePieces.{one_q0, one_r0, one_top}
 use Rattle.right_claims.proofs.Listings.{same_listing}
 use Rattle.normal_forms.specs.NormalForm.{Normal, IsNormalFormOf}
@@ -11,7 +11,7 @@ use Rattle.normal_forms.proofs.OneNormalForm.{one_normal_form}
 
 module _ (f : ProperTerm) (order : ℕ) (x y : Pieces) (p : ArePiecesOf x f order) (q : ArePiecesOf y f order) where
   pub one_tops : tops_of x order ≡ tops_of y order
-  one_tops = same_listing (suc order) (λ j. top_polynomial (x.top j)) (λ j. top_polynomial (y.top j))
+  one_tops = same_listing (suc order) (λ j. top_polynomial (top_at x j)) (λ j. top_polynomial (top_at y j))
       (λ j l. ap top_polynomial (one_top f order x y p q j (omega (arith, l))))
 
   pub one_normal : (n m : Normal) → IsNormalFormOf n x.q0 x.r0 → IsNormalFormOf m y.q0 y.r0 → n ≡ m
@@ -21,6 +21,6 @@ module _ (f : ProperTerm) (order : ℕ) (x y : Pieces) (p : ArePiecesOf x f orde
 -- and so the side of a pair
 pub one_pair_top : (f : ProperTerm) (x y : Pieces) → ArePiecesOf x f 1 → ArePiecesOf y f 1 → pair_top x ≡ pair_top y
 one_pair_top f x y p q =
-    let first : x.top 0 ≡ y.top 0 = one_top f 1 x y p q 0 (omega arith) in
-    let second : x.top 1 ≡ y.top 1 = one_top f 1 x y p q 1 (omega arith) in
+    let first : top_at x 0 ≡ top_at y 0 = one_top f 1 x y p q 0 (omega arith) in
+    let second : top_at x 1 ≡ top_at y 1 = one_top f 1 x y p q 1 (omega arith) in
     cc (ap top_polynomial first, ap top_polynomial second)

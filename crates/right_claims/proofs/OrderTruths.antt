@@ -10,7 +10,7 @@ use Rattle.hypergeometric.specs.ProperTerm.{ProperTerm}
 use Rattle.hypergeometric.specs.TermFacts.{IsProper}
 use Rattle.hypergeometric.specs.Claim.{Claim}
 use Rattle.term_classes.specs.ClassValues.{HasValue}
-use Rattle.term_pieces.specs.Pieces.{Pieces, ArePiecesOf}
+use Rattle.term_pieces.specs.Pieces.{Pieces, ArePiecesOf, top_at}
 use Rattle.normal_forms.specs.NormalForm.{Normal, IsNormalFormOf}
 use Rattle.lin_form.specs.Products.{list_polynomial}
 use Rattle.kernel_laws.specs.Answers.{meant}
@@ -65,7 +65,7 @@ module _ (f : ProperTerm) (value : Point → Fraction) (proper : IsProper f) (ha
   }
     where
       size : length (tops_of h.pieces order) ≡ suc order
-      size = listing_length (suc order) (λ j. top_polynomial (h.pieces.top j))
+      size = listing_length (suc order) (λ j. top_polynomial (top_at h.pieces j))
 
       certified : IsCertified c h.pieces order
       certified = solution_certified f h.pieces order h.normal (y h.pieces h.normal (tops_of h.pieces order) (suc order) c size h.left_by)

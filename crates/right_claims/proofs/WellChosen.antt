@@ -3,6 +3,7 @@ use Rattle.std.proofs.Common.{ℕ, suc, List, [], ◌∷◌, refl, sym, subst}
 use Rattle.std.specs.List.{AllByRecursion}
 use Rattle.hypergeometric.specs.ProperTerm.{ProperTerm}
 use Rattle.hypergeometric.specs.Claim.{Claim}
+use Rattle.term_pieces.specs.Pieces.{top_at}
 use Rattle.term_pieces.specs.Tops.{top_polynomial}
 use Rattle.pole_laws.specs.Orders.{tops_of, pair_top}
 use Rattle.right_claims.specs.Choice.{IsBestClaim, IsWellChosen}
@@ -19,7 +20,7 @@ module _ (f : ProperTerm) where
       subst (λ n. IsBestClaim n (tops_of pieces order) c)
       (one_normal f order h.pieces pieces h.setting.are_pieces are h.normal normal h.setting.is_normal is)
       (subst (λ ts. IsBestClaim h.normal ts c) (one_tops f order h.pieces pieces h.setting.are_pieces are)
-      (best h.pieces h.normal (tops_of h.pieces order) (suc order) c (listing_length (suc order) (λ j. top_polynomial (h.pieces.top j)))
+      (best h.pieces h.normal (tops_of h.pieces order) (suc order) c (listing_length (suc order) (λ j. top_polynomial (top_at h.pieces j)))
       h.setting.is_normal.poles.sorted h.left_by))
 
   pair_chosen : (form : PrintedForm) (c : Claim) (range : Range) → IsPairOrder f form c range → IsWellChosen f (pair form c range)

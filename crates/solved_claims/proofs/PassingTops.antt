@@ -12,7 +12,7 @@ use Rattle.hypergeometric.specs.ProperTerm.{ProperTerm}
 use Rattle.hypergeometric.specs.TermFacts.{IsProper}
 use Rattle.lin_form.specs.Products.{list_polynomial}
 use Rattle.lin_form.proofs.FormPolynomials.{o, list_passes}
-use Rattle.term_pieces.specs.Pieces.{Top, Pieces, ArePiecesOf, poly_at_later_n}
+use Rattle.term_pieces.specs.Pieces.{Top, Pieces, ArePiecesOf, poly_at_later_n, top_at}
 use Rattle.division_laws.specs.Polynomials.{Polynomial}
 use Rattle.key_laws.specs.KeyEquation.{meanings}
 use Rattle.key_laws.specs.KeyRows.{listing}
@@ -45,9 +45,9 @@ top_passes t p =
     (o.product poly forms).1
 
 pub tops_pass : (f : ProperTerm) (pieces : Pieces) (order : ℕ) → IsProper f → ArePiecesOf pieces f order → (j : ℕ) → j ≤ order
-    → IsTrue ((level 2).passes (top_polynomial (pieces.top j)))
+    → IsTrue ((level 2).passes (top_polynomial (top_at pieces j)))
 tops_pass f pieces order proper are j l =
-    top_passes (pieces.top j)
+    top_passes (top_at pieces j)
     (subst (λ m. IsTrue ((level 2).passes m)) (sym (are.poly j l)) (later_passes j (f.poly, proper.poly.passes)))
 
 -- a polynomial in n alone

@@ -10,7 +10,7 @@ use Rattle.hypergeometric.specs.TermFacts.{IsProper}
 use Rattle.hypergeometric.specs.Claim.{Claim}
 use Rattle.lin_form.specs.Products.{list_polynomial}
 use Rattle.lin_form.proofs.FormPolynomials.{o, laws}
-use Rattle.term_pieces.specs.Pieces.{Top, Pieces, ArePiecesOf}
+use Rattle.term_pieces.specs.Pieces.{Top, Pieces, ArePiecesOf, top_at}
 use Rattle.normal_forms.specs.NormalForm.{Normal}
 use Rattle.kernel_laws.specs.Answers.{Vector, meant}
 use Rattle.division_laws.specs.Polynomials.{Polynomial}
@@ -45,10 +45,10 @@ combined top m (suc count) s =
     place i = omega arith
 
 all_tops : (pieces : Pieces) (order : ℕ) (m : ℕ → Meaning)
-    → combination (level 1).ops m (tops_of pieces order) ≡ sum_of_tops pieces.top (listing (suc order) m) 0
+    → combination (level 1).ops m (tops_of pieces order) ≡ sum_of_tops (top_at pieces) (listing (suc order) m) 0
 all_tops pieces order m =
-    ap (λ (g : ℕ → ℕ). combination (level 1).ops m (listing (suc order) (λ i. top_polynomial (pieces.top (g i))))) places
-    ∙ combined pieces.top m (suc order) 0
+    ap (λ (g : ℕ → ℕ). combination (level 1).ops m (listing (suc order) (λ i. top_polynomial (top_at pieces (g i))))) places
+    ∙ combined (top_at pieces) m (suc order) 0
   where
     place : (i : ℕ) → i ≡ 0 + i
     place i = omega arith
@@ -86,16 +86,16 @@ pub solution_certified : (f : ProperTerm) (pieces : Pieces) (order : ℕ) (norma
     → IsProper f → ArePiecesOf pieces f order → Solves pieces normal (tops_of pieces order) y multipliers → Leaves normal y c → HasPieces c pieces
     → c.multipliers ≡ listing (suc order) (meant (level 1) multipliers) → IsCertified c pieces order
 solution_certified f pieces order normal y multipliers c proper are solves leaves goes is =
-    let tops = listed_in (suc order) (λ j. top_polynomial (pieces.top j)) (λ j l. tops_pass f pieces order proper are j (omega (arith, l))) in
+    let tops = listed_in (suc order) (λ j. top_polynomial (top_at pieces j)) (λ j l. tops_pass f pieces order proper are j (omega (arith, l))) in
     let same : meanings (level 1) tops ≡ tops_of pieces order =
-    listed_is (suc order) (λ j. top_polynomial (pieces.top j)) (λ j l. tops_pass f pieces order proper are j (omega (arith, l))) in
+    listed_is (suc order) (λ j. top_polynomial (top_at pieces j)) (λ j l. tops_pass f pieces order proper are j (omega (arith, l))) in
     record {
       count = ap length is ∙ listing_length (suc order) (meant (level 1) multipliers);
       goes_with = goes;
       identity = solved_identity f pieces order normal y multipliers c (has_fractions f proper) are tops
-          (sum_of_tops pieces.top c.multipliers 0)
+          (sum_of_tops (top_at pieces) c.multipliers 0)
           (ap (combination (level 1).ops (meant (level 1) multipliers)) same ∙ all_tops pieces order (meant (level 1) multipliers)
-          ∙ ap (λ ms. sum_of_tops pieces.top ms 0) (sym is))
+          ∙ ap (λ ms. sum_of_tops (top_at pieces) ms 0) (sym is))
           (subst (λ ts. Solves pieces normal ts y multipliers) (sym same) solves) leaves;
     }
 
@@ -107,13 +107,13 @@ pub solution_certified_pair : (f : ProperTerm) (pieces : Pieces) (normal : Norma
     → IsProper f → ArePiecesOf pieces f 1 → Solves pieces normal (pair_top pieces) y multipliers → Leaves normal y c → HasPieces c pieces
     → c.multipliers ≡ (multipliers 0).0 ∷ [] → IsCertifiedPair c (multipliers 0).0 pieces
 solution_certified_pair f pieces normal y multipliers c proper are solves leaves goes is =
-    let p0 : Passing (level 2) = (top_polynomial (pieces.top 0), tops_pass f pieces 1 proper are 0 (omega arith)) in
-    let p1 : Passing (level 2) = (top_polynomial (pieces.top 1), tops_pass f pieces 1 proper are 1 (omega arith)) in
+    let p0 : Passing (level 2) = (top_polynomial (top_at pieces 0), tops_pass f pieces 1 proper are 0 (omega arith)) in
+    let p1 : Passing (level 2) = (top_polynomial (top_at pieces 1), tops_pass f pieces 1 proper are 1 (omega arith)) in
     let side : Passing (level 2) = o.sum p1 (o.neg p0) in
     let a : Passing (level 2) = (constant (level 1).ops (multipliers 0).0, constant_passes (multipliers 0)) in
     record {
       multipliers = is;
       goes_with = goes;
       identity = solved_identity f pieces 1 normal y multipliers c (has_fractions f proper) are (side ∷ [])
-          (pair_of_tops pieces.top (multipliers 0).0) (one_side a side) solves leaves;
+          (pair_of_tops (top_at pieces) (multipliers 0).0) (one_side a side) solves leaves;
     }

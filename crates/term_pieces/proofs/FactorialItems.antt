@@ -13,7 +13,7 @@ use Rattle.hypergeometric.proofs.Definedness.{natural_power_defined}
 use Rattle.hypergeometric.proofs.FractionLaws.{equal_to_itself}
 use Rattle.term_classes.proofs.FractionPowers.{one_product}
 use Rattle.term_pieces.specs.Products.{form_plus, at_later_n}
-use Rattle.term_pieces.specs.Pieces.{negative_part, positive_part, least_of, greatest_of, above_least, below_greatest, rising_where, falling_where}
+use Rattle.term_pieces.specs.ItemForms.{negative_part, positive_part, least_of, greatest_of, above_least, below_greatest, rising_where, falling_where}
 use Rattle.term_pieces.proofs.Factorials.{factorial_times, inverse_factorial_times}
 use Rattle.term_pieces.proofs.FormValues.{plus_value, later_n_value, above_value, below_value}
 use Rattle.term_pieces.proofs.ItemShifts.{from_least, to_greatest}

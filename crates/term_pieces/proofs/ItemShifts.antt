@@ -6,7 +6,7 @@ use Rattle.ring_solver.proofs.Read.{ring_z, reading_z}
 use Rattle.hypergeometric.specs.Point.{Point, later_n}
 use Rattle.hypergeometric.specs.LinearForm.{LinearForm, form_value}
 use Rattle.term_pieces.specs.Products.{at_later_n}
-use Rattle.term_pieces.specs.Pieces.{negative_part, positive_part, least_of, greatest_of}
+use Rattle.term_pieces.specs.ItemForms.{negative_part, positive_part, least_of, greatest_of}
 use Rattle.term_pieces.proofs.FormValues.{plus_value, later_n_value}
 
 -- a number that isn't negative is its magnitude

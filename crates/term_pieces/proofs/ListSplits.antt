@@ -12,7 +12,8 @@ use Rattle.term_classes.proofs.FractionPowers.{product_assoc, product_one, power
 use Rattle.term_classes.proofs.NonzeroPowers.{product_moved}
 use Rattle.term_classes.proofs.SameValues.{zero_times}
 use Rattle.term_pieces.specs.Products.{form_plus, at_later_n}
-use Rattle.term_pieces.specs.Pieces.{negative_part, least_of, from_each, above_least, below_greatest, rising_up, falling_up, rising_down, falling_down, counted_but, cleared_over, later_over, kept_over, carrier_up, carrier_down, gathered_forms}
+use Rattle.term_pieces.specs.ItemForms.{negative_part, least_of, from_each, above_least, below_greatest, rising_up, falling_up, rising_down, falling_down, counted_but, cleared_over, later_over, kept_over}
+use Rattle.term_pieces.specs.Pieces.{carrier_up, carrier_down, gathered_forms}
 use Rattle.term_pieces.proofs.FactorialItems.{argument_splits, lower_splits}
 use Rattle.term_pieces.proofs.FormValues.{plus_value, later_n_value, joined_value}
 use Rattle.term_pieces.proofs.OverItems.{inverse_of, inverses}

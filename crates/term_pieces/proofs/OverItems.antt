@@ -15,7 +15,7 @@ use Rattle.term_classes.proofs.FractionPowers.{one_product}
 use Rattle.term_classes.specs.Forms.{is_zero}
 use Rattle.lin_form.specs.FactorLists.{factor_with}
 use Rattle.term_pieces.specs.Products.{at_later_k}
-use Rattle.term_pieces.specs.Pieces.{from_each, at_next_k, with_k, without_k}
+use Rattle.term_pieces.specs.ItemForms.{from_each, at_next_k, with_k, without_k}
 use Rattle.term_pieces.proofs.FormValues.{later_k_value}
 use Rattle.term_pieces.proofs.Splits.{times_common, multiplied}
 use Rattle.term_pieces.proofs.TimesPowers.{times_powers, equal_powers}

@@ -11,7 +11,7 @@ use Rattle.hypergeometric.specs.ProperTerm.{NoneZero}
 use Rattle.lin_form.specs.FactorLists.{factor_with}
 use Rattle.term_classes.specs.Forms.{is_zero}
 use Rattle.term_pieces.specs.Products.{at_later_n}
-use Rattle.term_pieces.specs.Pieces.{from_each, shifts_up_to, shifts_but, counted, counted_but, at_next_k, with_k, without_k}
+use Rattle.term_pieces.specs.ItemForms.{from_each, shifts_up_to, shifts_but, counted, counted_but, at_next_k, with_k, without_k}
 use Rattle.term_pieces.proofs.FormValues.{later_n_value}
 use Rattle.term_pieces.proofs.OverItems.{inverse_of, inverses, carrier_here, carrier_next}
 use Rattle.term_pieces.proofs.ShiftedDenominators.{first_same, left_out, one_left_out}

@@ -9,7 +9,8 @@ use Rattle.hypergeometric.specs.Fraction.{Fraction, ◌≈◌, of_whole, fractio
 use Rattle.hypergeometric.specs.LinearForm.{Factor, forms_value, factor_list_value, factorial_value, inverse_factorial_value, product_over}
 use Rattle.hypergeometric.specs.ProperTerm.{ProperTerm, HasFractions, IsDefinedAt, NoneNegative, proper_value, poly_value}
 use Rattle.term_classes.proofs.FractionPowers.{fraction_same, one_product}
-use Rattle.term_pieces.specs.Pieces.{Pieces, ArePiecesOf, from_each, above_least, below_greatest, rising_up, falling_up, rising_down, falling_down, counted_but, cleared_over, later_over, kept_over, poly_at_later_n, top_number, top_forms, q_forms, r_forms, carrier_of, carrier_up, carrier_down}
+use Rattle.term_pieces.specs.ItemForms.{from_each, above_least, below_greatest, rising_up, falling_up, rising_down, falling_down, counted_but, cleared_over, later_over, kept_over}
+use Rattle.term_pieces.specs.Pieces.{Pieces, ArePiecesOf, poly_at_later_n, top_number, top_forms, q_forms, r_forms, carrier_of, carrier_up, carrier_down, top_at}
 use Rattle.term_pieces.specs.PieceValues.{ShareValue}
 use Rattle.term_pieces.proofs.CarrierDefined.{defined_here, defined_next}
 use Rattle.term_pieces.proofs.FormValues.{joined_value}
@@ -104,8 +105,8 @@ module _ (f : ProperTerm) (order : ℕ) (p : Point) (parts : HasFractions f) (de
         let c = from_each (counted_but order j) f.over in
         let numbers = poly_first (top_number f order j) (poly_value (poly_at_later_n f.poly j) p) (forms_value a p) (forms_value b p) (forms_value c p)
         ∙ ap (λ t. poly_value (poly_at_later_n f.poly j) p *ℤ (top_number f order j *ℤ t)) (sym (three_joined a b c p))
-        ∙ ap (λ t. poly_value (poly_at_later_n f.poly j) p *ℤ t) (sym (product_value p (pieces.top j).factors (top_number f order j) (top_forms f order j) (are.factors j l)))
-        ∙ ap (λ poly. poly_value poly p *ℤ factor_list_value (pieces.top j).factors p) (sym (are.poly j l)) in
+        ∙ ap (λ t. poly_value (poly_at_later_n f.poly j) p *ℤ t) (sym (product_value p (top_at pieces j).factors (top_number f order j) (top_forms f order j) (are.factors j l)))
+        ∙ ap (λ poly. poly_value poly p *ℤ factor_list_value (top_at pieces j).factors p) (sym (are.poly j l)) in
         subst (λ z. proper_value f (later_n p (pos j)) ≈ times_common z all.common) numbers
         (subst (λ z. z ≈ times_common (top_number f order j *ℤ (poly_value (poly_at_later_n f.poly j) p *ℤ (forms_value a p *ℤ (forms_value b p *ℤ forms_value c p)))) all.common)
         (regrouped f.scale (of_whole (poly_value f.poly (later_n p (pos j)))) (whole_power f.n_base (p.n +ℤ pos j)) (whole_power f.k_base p.k)

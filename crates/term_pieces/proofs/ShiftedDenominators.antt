@@ -11,7 +11,7 @@ use Rattle.hypergeometric.proofs.FractionLaws.{one_not_zero, equal_to_itself}
 use Rattle.term_classes.proofs.FractionPowers.{one_product, product_one, product_assoc}
 use Rattle.lin_form.specs.FactorLists.{factor_with}
 use Rattle.term_pieces.specs.Products.{at_later_n}
-use Rattle.term_pieces.specs.Pieces.{shifts_up_to, shifts_but}
+use Rattle.term_pieces.specs.ItemForms.{shifts_up_to, shifts_but}
 use Rattle.term_pieces.proofs.FormValues.{later_n_value, joined_value}
 use Rattle.term_pieces.proofs.OverItems.{inverse_of, inverses, kept_on_both, cleared, itself}
 use Rattle.term_pieces.proofs.Splits.{times_common, multiplied}

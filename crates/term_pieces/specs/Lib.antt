@@ -1,4 +1,5 @@
 pub mod Products
+pub mod ItemForms
 pub mod Pieces
 pub mod PieceValues
 pub mod Tops

@@ -26,13 +26,9 @@ pub fn pieces_share_a_value()
         → ((j : ℕ) → j ≤ order → IsDefinedAt f (later_n p (pos j))) → ShareValue f pieces order p }
 {}
 
-/// The pieces of a term at an order are fixed by it: q0, r0, the carrier, and p_0 to p_J.
+/// A term has one list of pieces at an order: p_0 to p_J, q0, r0 and the carrier.
 pub fn pieces_are_one()
-    ensures q0 { (f : ProperTerm) (order : ℕ) (x y : Pieces) → ArePiecesOf x f order → ArePiecesOf y f order → x.q0 ≡ y.q0 }
-    ensures r0 { (f : ProperTerm) (order : ℕ) (x y : Pieces) → ArePiecesOf x f order → ArePiecesOf y f order → x.r0 ≡ y.r0 }
-    ensures carrier { (f : ProperTerm) (order : ℕ) (x y : Pieces) → ArePiecesOf x f order → ArePiecesOf y f order → x.carrier ≡ y.carrier }
-    ensures tops { (f : ProperTerm) (order : ℕ) (x y : Pieces) → ArePiecesOf x f order → ArePiecesOf y f order
-        → (j : ℕ) → j ≤ order → x.top j ≡ y.top j }
+    ensures only { (f : ProperTerm) (order : ℕ) (x y : Pieces) → ArePiecesOf x f order → ArePiecesOf y f order → x ≡ y }
 {}
 
 /// Each term has pieces at each order.
