@@ -40,10 +40,10 @@ inner_order = inr (refl, inl (omega arith))
 
 -- n is n - 2 at n + 2, so the pair of n with n - 2 isn't normal
 shifted : IsShiftOf (line (pos 0)) (line (negsuc 1))
-shifted = (2, λ n. same n)
+shifted = (2, λ p. same p.n p.k)
   where
-    same : (n : ℤ) → (pos 1 *ℤ n +ℤ pos 0 *ℤ pos 0) +ℤ pos 0 ≡ (pos 1 *ℤ (n +ℤ pos 2) +ℤ pos 0 *ℤ pos 0) +ℤ negsuc 1
-    same n = ring_z (n ∷ []) (search reading_z depth 40 fits 20000) refl
+    same : (n k : ℤ) → (pos 1 *ℤ n +ℤ pos 0 *ℤ k) +ℤ pos 0 ≡ (pos 1 *ℤ (n +ℤ pos 2) +ℤ pos 0 *ℤ k) +ℤ negsuc 1
+    same n k = ring_z (n ∷ k ∷ []) (search reading_z depth 40 fits 20000) refl
 
 abbrev one : Meaning
 one = listed (number (pos 1) ∷ [])

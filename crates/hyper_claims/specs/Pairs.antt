@@ -1,6 +1,7 @@
 -- The pairs of Hyper (A=B chapter 8): a is a choice of the linear factors of p_0(n), and b one of those of p_d(n-d+1).
-use Rattle.std.specs.Prelude.{◌≡◌, ℕ, zero, suc, ◌<◌, ◌≤◌, ℤ, pos, ◌+ℤ◌, ◌⊎◌, List, [], ◌∷◌}
+use Rattle.std.specs.Prelude.{◌≡◌, ℕ, zero, suc, ◌<◌, ◌≤◌, pos, ◌⊎◌, List, [], ◌∷◌}
 use Rattle.std.specs.List.{AllByRecursion}
+use Rattle.hypergeometric.specs.Point.{Point, later_n}
 use Rattle.hypergeometric.specs.LinearForm.{LinearForm, Factor, form_value}
 use Rattle.whole_roots.specs.LinearFactors.{Entry}
 use Rattle.hyper_claims.specs.Orders.{AreAllInOrder}
@@ -29,9 +30,9 @@ IsEarlier [] ys = ⊥
 IsEarlier (x ∷ xs) [] = ⊥
 IsEarlier (x ∷ xs) (y ∷ ys) = (x < y) ⊎ ((x ≡ y) × IsEarlier xs ys)
 
--- f(n) = g(n+h) for a whole h of at least 0
+-- f at n is g at n + h, for a whole h of at least 0
 abbrev pub IsShiftOf : LinearForm → LinearForm → Type 0
-IsShiftOf f g = (h : ℕ) × ((n : ℤ) → form_value f n (pos 0) ≡ form_value g (n +ℤ pos h) (pos 0))
+IsShiftOf f g = (h : ℕ) × ((p : Point) → form_value f p ≡ form_value g (later_n p (pos h)))
 
 -- no factor of a is a factor of b so shifted
 abbrev pub IsNormal : List Factor → List Factor → Type 0
