@@ -71,3 +71,13 @@ power_below = refl
 
 zero_to_zero : term_value (at (power_of (lit 0) (lit 0))) (point (pos 0) (pos 0)) ≡ record { top = pos 1; bottom = pos 1 }
 zero_to_zero = refl
+
+-- 1/k isn't defined at k = 0, and so (1/k)^k isn't, though its exponent has the value 0; but (1/k)^0 is 1, since its exponent is a constant
+abbrev one_over_k : Tree
+one_over_k = at (product_of (two_parts true (lit 1) (at variable_k)))
+
+undefined_base : (term_value (at (power_of one_over_k (at variable_k))) (point (pos 0) (pos 0))).bottom ≡ pos 0
+undefined_base = refl
+
+constant_power_of_undefined : term_value (at (power_of one_over_k (lit 0))) (point (pos 0) (pos 0)) ≡ record { top = pos 1; bottom = pos 1 }
+constant_power_of_undefined = refl

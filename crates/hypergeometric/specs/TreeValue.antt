@@ -17,6 +17,10 @@ whole_number_of f =
 abbrev pub at_whole : (ℤ → Fraction) → Fraction → Fraction
 at_whole g f = elim (whole_number_of f) as (λ _. Fraction) [ Some z ↦ g z | None ↦ undefined_value ]
 
+-- f to a whole power, where f is defined: what isn't has no power, not even the power 0
+abbrev pub defined_power : Fraction → ℤ → Fraction
+defined_power f w = if nat_eq (unsigned_abs f.bottom) 0 then undefined_value else whole_power f w
+
 -- (m!)^w, as a power of 1/m! where w is negative
 abbrev pub factorial_power : ℤ → ℤ → Fraction
 factorial_power (pos w) m = natural_power (factorial_value m) w
@@ -44,7 +48,7 @@ abbrev mutual
   node_value (product_of parts) w p = product_value parts w p
   node_value (power_of base exponent) w p = elim (constant_exponent exponent) as (λ _. Fraction) [
     | Some c ↦ if nat_eq (unsigned_abs c) 0 then of_whole (pos 1) else tree_value base (w *ℤ c) p
-    | None ↦ at_whole (λ e. whole_power (tree_value base (pos 1) p) (w *ℤ e)) (tree_value exponent (pos 1) p)
+    | None ↦ at_whole (λ e. defined_power (tree_value base (pos 1) p) (w *ℤ e)) (tree_value exponent (pos 1) p)
   ]
   node_value (factorial_of t) w p = at_whole (factorial_power w) (tree_value t (pos 1) p)
   node_value (binomial_of l m) w p =

@@ -7,7 +7,7 @@ use Rattle.hypergeometric.specs.Point.{Point}
 use Rattle.hypergeometric.specs.Fraction.{Fraction, whole_power}
 use Rattle.hypergeometric.specs.Tree.{Tree, tree, Node, literal, variable_n, variable_k, sum_of, product_of, power_of, factorial_of, binomial_of, Parts, no_parts, part}
 use Rattle.hypergeometric.specs.TreePolynomial.{constant_in_k, constant_of}
-use Rattle.hypergeometric.specs.TreeValue.{tree_value, node_value, product_value, at_whole}
+use Rattle.hypergeometric.specs.TreeValue.{tree_value, node_value, product_value, at_whole, defined_power}
 use Rattle.hypergeometric.proofs.FractionLaws.{one_not_zero}
 use Rattle.hypergeometric.proofs.PlainTerms.{whole_power_of_one}
 use Rattle.term_classes.specs.Refusals.{exponent_limit}
@@ -46,7 +46,7 @@ mutual
   node_constant_has at (power_of base e) f h =
       let g = then_gave (polynomial_sought e) (λ given. where_some (constant_of given) (λ c. within_limit exponent_limit 12 (unsigned_abs c) c then (λ c1.
       constant_sought base then (λ f. where_some f (power_made at c))))) (Some f) h in
-      let other : ℤ → Point → Fraction = λ w p. at_whole (λ z. whole_power (tree_value base (pos 1) p) (w *ℤ z)) (tree_value e (pos 1) p) in
+      let other : ℤ → Point → Fraction = λ w p. at_whole (λ z. defined_power (tree_value base (pos 1) p) (w *ℤ z)) (tree_value e (pos 1) p) in
       subst (λ c. IsConstant f (λ w p. power_value base c w p (other w p))) (sym (ap constant_of (sought_is e g.value g.first)))
       (power_found at base (constant_of g.value) f other g.second (constant_has base))
   node_constant_has at (factorial_of t) f e = absurd (none-some f (same_Ok None (Some f) e))

@@ -8,7 +8,7 @@ use Rattle.hypergeometric.specs.Fraction.{of_whole, whole_power}
 use Rattle.hypergeometric.specs.ProperTerm.{poly_value}
 use Rattle.hypergeometric.specs.Tree.{Tree, tree, Node, literal, variable_n, variable_k, sum_of, product_of, power_of, factorial_of, binomial_of, Parts, no_parts, part}
 use Rattle.hypergeometric.specs.TreePolynomial.{in_n_and_k, poly_n, poly_k, signed_poly, tree_polynomial, node_polynomial, sum_polynomial, product_polynomial, constant_exponent}
-use Rattle.hypergeometric.specs.TreeValue.{tree_value, sum_value, product_value, signed_value, at_whole}
+use Rattle.hypergeometric.specs.TreeValue.{tree_value, sum_value, product_value, signed_value, at_whole, defined_power}
 use Rattle.hypergeometric.proofs.PlainTerms.{whole_power_of_one}
 use Rattle.term_classes.proofs.SameValues.{◌≅◌, same, same_chain, same_products, same_sums, same_whole_powers}
 use Rattle.term_classes.proofs.FractionPowers.{whole_power_of_product}
@@ -35,7 +35,7 @@ mutual
   node_has (product_of parts) poly e w p = product_has parts poly e w p
   node_has (power_of base exponent) poly e w p =
       raised_has base (tree_polynomial base) (constant_exponent exponent) poly e (tree_has base) w p
-      (at_whole (λ e. whole_power (tree_value base (pos 1) p) (w *ℤ e)) (tree_value exponent (pos 1) p))
+      (at_whole (λ e. defined_power (tree_value base (pos 1) p) (w *ℤ e)) (tree_value exponent (pos 1) p))
   node_has (factorial_of t) poly e w p = absurd (none-some poly e)
   node_has (binomial_of l m) poly e w p = absurd (none-some poly e)
 

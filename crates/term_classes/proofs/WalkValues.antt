@@ -9,7 +9,7 @@ use Rattle.hypergeometric.specs.LinearForm.{LinearForm, form_value}
 use Rattle.hypergeometric.specs.ProperTerm.{ProperTerm, HasFractions}
 use Rattle.hypergeometric.specs.Tree.{Tree, tree, Node, literal, variable_n, variable_k, sum_of, product_of, power_of, factorial_of, binomial_of, Parts, no_parts, part}
 use Rattle.hypergeometric.specs.TreePolynomial.{constant_of, tree_polynomial}
-use Rattle.hypergeometric.specs.TreeValue.{tree_value, node_value, product_value, part_power, factorial_power, at_whole}
+use Rattle.hypergeometric.specs.TreeValue.{tree_value, node_value, product_value, part_power, factorial_power, at_whole, defined_power}
 use Rattle.hypergeometric.proofs.FractionLaws.{one_not_zero}
 use Rattle.term_classes.specs.Refusals.{improper, exponent_limit}
 use Rattle.term_classes.specs.Steps.{Steps, gives, refuses, within_limit, ◌then◌}
@@ -17,7 +17,7 @@ use Rattle.term_classes.specs.Divisors.{lowest_terms, raised_fraction}
 use Rattle.term_classes.specs.Forms.{is_zero, linear_form_of, limited_form, limited_exponent}
 use Rattle.term_classes.specs.Sought.{polynomial_sought, node_polynomial_sought, constant_sought}
 use Rattle.term_classes.specs.Walk.{with_scale, place_of, times_sought, form_or_refused, argument_sought, not_negative, with_factorial, base_or_refused, times_exponential, walk, walk_node, walk_parts}
-use Rattle.term_classes.proofs.SameValues.{same, same_chain, same_turned, same_whole_powers}
+use Rattle.term_classes.proofs.SameValues.{◌≅◌, same, same_chain, same_turned, same_defined, same_whole_powers}
 use Rattle.term_classes.proofs.FractionPowers.{product_one}
 use Rattle.term_classes.proofs.PassingPolynomials.{node_belongs}
 use Rattle.term_classes.proofs.StepLaws.{then_gave, same_Ok, not_refused}
@@ -28,7 +28,7 @@ use Rattle.term_classes.proofs.ConstantPowers.{not_zero}
 use Rattle.term_classes.proofs.ConstantValues.{constant_has}
 use Rattle.term_classes.proofs.TermProducts.{IsTimes, times_nothing, times_both, times_same}
 use Rattle.term_classes.proofs.FieldProducts.{scale_times}
-use Rattle.term_classes.proofs.WholeValues.{at_whole_value}
+use Rattle.term_classes.proofs.WholeValues.{at_whole_value, defined_power_value}
 use Rattle.term_classes.proofs.WalkRows.{factorial_row, sought_row}
 use Rattle.term_classes.proofs.ArgumentRows.{form_found, argument_found, exponential_row, binomial_row, skipped}
 
@@ -50,7 +50,7 @@ base_found at (Some g) f e = by (is_zero g.top) refl e
     by false p q = record { found = ap Some (same_Ok g f q); top = subst (λ f. f.top ≢ pos 0) (same_Ok g f q) (not_zero g.top p) }
 
 abbrev exponent_value : Tree → Tree → ℤ → Point → Fraction
-exponent_value base e w p = at_whole (λ z. whole_power (tree_value base (pos 1) p) (w *ℤ z)) (tree_value e (pos 1) p)
+exponent_value base e w p = at_whole (λ z. defined_power (tree_value base (pos 1) p) (w *ℤ z)) (tree_value e (pos 1) p)
 
 -- an exponent that is no constant
 abbrev pub exponential_walk : ℕ → Tree → Tree → Option LinearForm → ℤ → ProperTerm → Steps ProperTerm
@@ -70,11 +70,13 @@ exponential_has at base e poly w s s' h is given =
     let base_is = base_found at a.value b.value b.first in
     let constant = constant_has base b.value (a.first ∙ ap Ok base_is.found) in
     let form = form_found 5 e poly c.value is c.first in
+    let base_value : (p : Point) → tree_value base (pos 1) p ≅ b.value = λ p. same_chain (constant.power (pos 1) p) (same (product_one b.value)) in
     times_same s s' (λ p. whole_power b.value (w *ℤ form_value c.value p)) (exponent_value base e w)
     (exponential_row at b.value c.value w s s' h (record { top = base_is.top; bottom = constant.defined }) d)
     (λ p. same_turned (same_chain
-    (same (at_whole_value (λ z. whole_power (tree_value base (pos 1) p) (w *ℤ z)) (tree_value e (pos 1) p) (form_value c.value p) (form p)))
-    (same_whole_powers (w *ℤ form_value c.value p) (same_chain (constant.power (pos 1) p) (same (product_one b.value))))))
+    (same (at_whole_value (λ z. defined_power (tree_value base (pos 1) p) (w *ℤ z)) (tree_value e (pos 1) p) (form_value c.value p) (form p)
+    ∙ defined_power_value (tree_value base (pos 1) p) (w *ℤ form_value c.value p) ((same_defined (base_value p)).1 constant.defined)))
+    (same_whole_powers (w *ℤ form_value c.value p) (base_value p))))
 
 -- a constant exponent
 constant_walk : (base : Tree) (c w : ℤ) (s s' : ProperTerm) → HasFractions s → WalkMultiplies base → (b : Bool)

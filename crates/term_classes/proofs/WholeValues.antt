@@ -1,4 +1,4 @@
--- The whole number that a fraction is.
+-- The whole number that a fraction is, and powers of fractions that are defined.
 use Rattle.std.proofs.Common.{◌≡◌, ◌≢◌, ◌%◌, refl, ap, sym, ◌∙◌, [], ◌∷◌, Some, None, arith, true≢false}
 use Rattle.std.proofs.lemmas.Int.{ints, quot-rem, unsigned_abs-mul}
 use Rattle.std.proofs.lemmas.Bool.{cond_both, eqb-true, eq-eqb}
@@ -9,8 +9,8 @@ use Rattle.ring_solver.proofs.Linear.{cancel}
 use Rattle.ring_solver.proofs.Read.{ring_z, reading_z}
 use Rattle.ring_laws.specs.WholeDomain.{abs_nought}
 use Rattle.ring_laws.proofs.Quotients.{abs_rem}
-use Rattle.hypergeometric.specs.Fraction.{Fraction, of_whole, undefined_value}
-use Rattle.hypergeometric.specs.TreeValue.{whole_number_of, at_whole}
+use Rattle.hypergeometric.specs.Fraction.{Fraction, IsDefined, of_whole, undefined_value, whole_power}
+use Rattle.hypergeometric.specs.TreeValue.{whole_number_of, at_whole, defined_power}
 use Rattle.hypergeometric.proofs.FractionLaws.{one_not_zero}
 use Rattle.term_classes.proofs.SameValues.{◌≅◌}
 
@@ -42,3 +42,9 @@ whole_found f z e =
 
 pub at_whole_value : (g : ℤ → Fraction) (f : Fraction) (z : ℤ) → f ≅ of_whole z → at_whole g f ≡ g z
 at_whole_value g f z e = ap (λ o. elim o as (λ _. Fraction) [ Some z ↦ g z | None ↦ undefined_value ]) (whole_found f z e)
+
+-- a power of what is defined is its power
+pub defined_power_value : (f : Fraction) (w : ℤ) → IsDefined f → defined_power f w ≡ whole_power f w
+defined_power_value f w defined =
+    cond_both (nat_eq (unsigned_abs f.bottom) 0) undefined_value (whole_power f w) (λ v. v ≡ whole_power f w)
+    (λ h. absurd (defined (abs_nought f.bottom (eqb-true (unsigned_abs f.bottom) 0 h)))) (λ h. refl)
