@@ -6,7 +6,6 @@ use Rattle.ring_laws.specs.Meaning.{Meaning}
 use Rattle.poly_laws.specs.Values.{value_at, level}
 use Rattle.poly_laws.proofs.Keeps.{value_at_keeps}
 use Rattle.poly_laws.proofs.ShiftLaws.{value_at_shift}
-use Rattle.hypergeometric.specs.Point.{point}
 use Rattle.hypergeometric.specs.Fraction.{of_whole}
 use Rattle.hypergeometric.specs.PlainTerm.{plain_term, plain_claim}
 use Rattle.hypergeometric.specs.ProperTerm.{proper_value}

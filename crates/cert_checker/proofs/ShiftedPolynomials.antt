@@ -1,7 +1,7 @@
 -- The coefficients of the shift of a polynomial by 1 are small where those of the polynomial are few and small.
 use Rattle.std.proofs.Common.{◌≡◌, ℕ, zero, suc, ◌+◌, ◌*◌, ◌≤◌, ◌^◌, List, [], ◌∷◌, length, map, arith}
 use Rattle.std.proofs.lemmas.Int.{ints}
-use Rattle.std.specs.Prelude.{ℤ, pos, ◌+ℤ◌, unsigned_abs}
+use Rattle.std.specs.Prelude.{pos, ◌+ℤ◌, unsigned_abs}
 use Rattle.ring_laws.specs.Meaning.{Meaning, number}
 use Rattle.ring_laws.specs.Wholes.{whole_algebra, number_of}
 use Rattle.poly_laws.specs.Lists.{list_sum}

@@ -39,7 +39,7 @@ length_set (x ∷ xs) zero w = refl
 length_set (x ∷ xs) (suc i) w = ap suc (length_set xs i w)
 
 -- as many zeros
-pub value_nought : (p : ℕ) (w : Whole) → w.value ≡ pos 0 → value_in (replicate p.n w) p.k ≡ pos 0
-value_nought zero p.k w e = refl
-value_nought (suc p.n) zero w e = e
-value_nought (suc p.n) (suc p.k) w e = value_nought p w e
+pub value_nought : (n k : ℕ) (w : Whole) → w.value ≡ pos 0 → value_in (replicate n w) k ≡ pos 0
+value_nought zero k w e = refl
+value_nought (suc n) zero w e = e
+value_nought (suc n) (suc k) w e = value_nought n k w e

@@ -11,7 +11,7 @@ use Rattle.poly_laws.specs.Values.{horner, value_at, level}
 use Rattle.poly_laws.proofs.Keeps.{value_at_keeps}
 use Rattle.poly_laws.proofs.Belonging.{value_passes}
 use Rattle.poly_laws.proofs.Equal.{level_laws}
-use Rattle.hypergeometric.specs.Point.{Point, values, values_in_n}
+use Rattle.hypergeometric.specs.Point.{Point, values_in_n}
 use Rattle.hypergeometric.specs.ProperTerm.{poly_value}
 use Rattle.hypergeometric.specs.TermFacts.{IsPolynomial, IsNumber}
 use Rattle.cert_text.specs.PolynomialDocument.{constant_in_n, in_k}

@@ -5,6 +5,7 @@ use Rattle.ring_laws.specs.Meaning.{Meaning, number}
 use Rattle.poly_laws.specs.Values.{value_at, level}
 use Rattle.poly_laws.proofs.Equal.{same_values}
 use Rattle.poly_laws.proofs.Keeps.{value_at_keeps}
+use Rattle.hypergeometric.specs.Point.{point}
 use Rattle.hypergeometric.specs.ProperTerm.{poly_value}
 use Rattle.document_text.specs.Document.{Document}
 use Rattle.document_text.specs.WellFormed.{IsWellFormed}
@@ -27,7 +28,7 @@ same_by_values x y p q same = ap (λ z. z.0) (same_values 1 (x, p) (y, q) at_poi
 -- read as one in k over n, a polynomial is still known
 in_k_determines : (x y : Meaning) → IsTrue ((level 1).passes x) → IsTrue ((level 1).passes y) → in_k x ≡ in_k y → x ≡ y
 in_k_determines x y p q e =
-    same_by_values x y p q (λ k. sym (in_k_value x (pos 0) k) ∙ ap (λ m. poly_value m (pos 0) k) e ∙ in_k_value y (pos 0) k)
+    same_by_values x y p q (λ k. sym (in_k_value x (point (pos 0) k)) ∙ ap (λ m. poly_value m (point (pos 0) k)) e ∙ in_k_value y (point (pos 0) k))
 
 -- and so is a number, as a polynomial in n
 constant_determines : (v w : ℤ) → (level 1).ops.whole v ≡ (level 1).ops.whole w → v ≡ w

@@ -9,7 +9,7 @@ use Rattle.ring_laws.specs.Meaning.{Meaning, items}
 use Rattle.poly_laws.specs.Lists.{coefficient_at}
 use Rattle.poly_laws.specs.Values.{value_at, level}
 use Rattle.poly_laws.proofs.Equal.{level_laws}
-use Rattle.hypergeometric.specs.Point.{Point, values, later_k}
+use Rattle.hypergeometric.specs.Point.{Point, later_k}
 use Rattle.hypergeometric.specs.Fraction.{Fraction, of_whole}
 use Rattle.hypergeometric.specs.ProperTerm.{poly_value}
 use Rattle.hypergeometric.specs.PlainTerm.{plain_term, plain_claim, unit_list}
@@ -96,7 +96,7 @@ polynomial_document_well_formed poly y scale multiplier carrier_scale p some q s
 -- what has the values scale * poly(k) telescopes by the document's claim, where multiplier * poly is the difference of y
 pub polynomial_document_telescopes : (f : Point → Fraction) (poly y : Meaning) (scale multiplier : ℤ)
     → ((p : Point) → f p ≡ of_whole (scale *ℤ value_at (p.k ∷ []) poly))
-    → ((p.k : ℤ) → multiplier *ℤ value_at (p.k ∷ []) poly ≡ value_at ((p.k +ℤ pos 1) ∷ []) y -ℤ value_at (p.k ∷ []) y)
+    → ((k : ℤ) → multiplier *ℤ value_at (k ∷ []) poly ≡ value_at ((k +ℤ pos 1) ∷ []) y -ℤ value_at (k ∷ []) y)
     → scale ≢ pos 0
     → Telescopes f (in_k poly) (plain_claim multiplier scale (in_k y))
 polynomial_document_telescopes f poly y scale multiplier values law not_zero =
