@@ -4,7 +4,7 @@ use Rattle.std.specs.Prelude.{ℤ, pos, negsuc, ◌*ℤ◌}
 use Rattle.ring_laws.specs.Meaning.{number, listed}
 use Rattle.poly_laws.specs.Values.{level}
 use Rattle.ring_solver.specs.Ranges.{over}
-use Rattle.hypergeometric.specs.Point.{point}
+use Rattle.hypergeometric.specs.Point.{Point, point}
 use Rattle.hypergeometric.specs.Fraction.{Fraction, of_whole}
 use Rattle.hypergeometric.specs.LinearForm.{LinearForm}
 use Rattle.hypergeometric.specs.ProperTerm.{ProperTerm, proper_value}
@@ -31,6 +31,11 @@ range = refl
 
 abbrev sum_at : ℤ → Fraction
 sum_at n = natural_sum (proper_value binomial) (ends_of ends) (point n (pos 0))
+
+-- the k of the point doesn't count
+pub without_k : (value : Point → Fraction) (forms : LinearForm × LinearForm) (p : Point) (k : ℤ)
+    → natural_sum value (ends_of forms) (record p { k = k }) ≡ natural_sum value (ends_of forms) p
+without_k value forms p k = refl
 
 -- at n = 3 it is 8, and at n = -2 it is empty
 pub three : (sum_at (pos 3)).top ≡ pos 8 *ℤ (sum_at (pos 3)).bottom

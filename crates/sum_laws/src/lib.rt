@@ -1,7 +1,7 @@
 //! The sums of a term over its natural range in k, that the recurrence of a claim holds for them, and that a recurrence determines its sequences.
 //!
-//! `specs/NaturalSums.antt` has natural sums, `specs/Sequences.antt` what a recurrence leaves open, `proofs/` the laws. The functions here do nothing:
-//! their contracts are laws.
+//! `specs/NaturalSums.antt` has natural sums, `specs/Sequences.antt` what a recurrence leaves open, `proofs/` the laws. The functions here do
+//! nothing: their contracts are laws.
 #![tactic(auto)]
 
 ghost use Rattle.std.specs.Prelude.{◌≡◌, ℕ, suc, pos, List, length, Some};
