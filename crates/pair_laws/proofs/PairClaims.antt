@@ -6,13 +6,13 @@ use Rattle.ring_solver.proofs.Read.{ring_z, reading_z}
 use Rattle.ring_laws.specs.Meaning.{Meaning}
 use Rattle.poly_laws.specs.Values.{level}
 use Rattle.poly_laws.proofs.Keeps.{value_at_keeps}
-use Rattle.hypergeometric.specs.Point.{Point, later_n, later_k}
-use Rattle.hypergeometric.specs.Fraction.{Fraction, ◌≈◌, of_whole, fraction_sum, fraction_difference, fraction_product, sum_over_range}
+use Rattle.hypergeometric.specs.Point.{Point, values_in_n, later_n, later_k}
+use Rattle.hypergeometric.specs.Fraction.{Fraction, ◌≈◌, of_whole, fraction_sum, fraction_difference, fraction_product}
 use Rattle.hypergeometric.specs.LinearForm.{LinearForm}
 use Rattle.hypergeometric.specs.ProperTerm.{ProperTerm, value_in_n}
 use Rattle.hypergeometric.specs.TermFacts.{IsProper}
 use Rattle.hypergeometric.specs.Claim.{Claim, left_side, certificate}
-use Rattle.hypergeometric.specs.Telescopes.{Telescopes, between_ends}
+use Rattle.hypergeometric.specs.Telescopes.{Telescopes, sum_over_range, between_ends}
 use Rattle.term_classes.specs.ClassValues.{HasValue}
 use Rattle.term_classes.proofs.FractionPowers.{fraction_same}
 use Rattle.term_pieces.specs.Pieces.{Pieces, ArePiecesOf}
@@ -35,8 +35,8 @@ use Rattle.sum_laws.proofs.NaturalRanges.{natural_ends}
 abbrev pub pair_recurrence : Meaning → Claim → Claim
 pair_recurrence a c = record c { multipliers = (level 1).ops.neg a ∷ a ∷ [] }
 
-negated : (a : Meaning) (n : ℤ) → value_in_n ((level 1).ops.neg a) n ≡ neg_ℤ (value_in_n a n)
-negated a n = (value_at_keeps (n ∷ [])).neg a
+negated : (a : Meaning) (p : Point) → value_in_n ((level 1).ops.neg a) p ≡ neg_ℤ (value_in_n a p)
+negated a p = (value_at_keeps (values_in_n p)).neg a
 
 -- x (g - f) is -x f + (x g + 0)
 times_difference : (x : ℤ) (f g : Fraction)
@@ -55,14 +55,14 @@ times_difference x f g = fraction_same (tops x f.top f.bottom g.top g.bottom) (b
 same_side : (value : Point → Fraction) (a : Meaning) (c : Claim) (p : Point) → left_side value (pair_recurrence a c) p ≡ pair_side value a p
 same_side value a c p =
     ap (λ x. fraction_sum (fraction_product (of_whole x) (value p))
-    (fraction_sum (fraction_product (of_whole (value_in_n a p)) (value (later_n p (pos 1)))) (of_whole (pos 0)))) (negated a p.n)
+    (fraction_sum (fraction_product (of_whole (value_in_n a p)) (value (later_n p (pos 1)))) (of_whole (pos 0)))) (negated a p)
     ∙ sym (times_difference (value_in_n a p) (value p) (value (later_n p (pos 1))))
 
 -- a (p_1 - p_0) is -a p_0 + (a p_1 + 0)
-numbers_are : (top : ℕ → ℤ) (a : Meaning) (n : ℤ)
-    → value_in_n a n *ℤ (top 1 +ℤ neg_ℤ (top 0)) ≡ sum_of_multiples top ((level 1).ops.neg a ∷ a ∷ []) n 0
-numbers_are top a n =
-    spread (value_in_n a n) (top 0) (top 1) ∙ ap (λ z. z *ℤ top 0 +ℤ (value_in_n a n *ℤ top 1 +ℤ pos 0)) (sym (negated a n))
+numbers_are : (top : ℕ → ℤ) (a : Meaning) (p : Point)
+    → value_in_n a p *ℤ (top 1 +ℤ neg_ℤ (top 0)) ≡ sum_of_multiples top ((level 1).ops.neg a ∷ a ∷ []) p 0
+numbers_are top a p =
+    spread (value_in_n a p) (top 0) (top 1) ∙ ap (λ z. z *ℤ top 0 +ℤ (value_in_n a p *ℤ top 1 +ℤ pos 0)) (sym (negated a p))
   where
     spread : (x t u : ℤ) → x *ℤ (u +ℤ neg_ℤ t) ≡ neg_ℤ x *ℤ t +ℤ (x *ℤ u +ℤ pos 0)
     spread x t u = ring_z (x ∷ t ∷ u ∷ []) (search reading_z depth 40 fits 20000) refl
@@ -77,14 +77,14 @@ module _ (f : ProperTerm) (value : Point → Fraction) (pieces : Pieces) (a : Me
   }
 
   identity : (p : Point) → IdentityAt p pieces (pair_recurrence a c)
-      (sum_of_multiples (λ j. top_value (pieces.top j) p) ((level 1).ops.neg a ∷ a ∷ []) p.n 0)
+      (sum_of_multiples (λ j. top_value (pieces.top j) p) ((level 1).ops.neg a ∷ a ∷ []) p 0)
   identity p =
       let p0 = top_polynomial (pieces.top 0) in
       let p1 = top_polynomial (pieces.top 1) in
       subst (λ s. IdentityAt p pieces (pair_recurrence a c) s)
       (product_of p (constant (level 1).ops a) (poly_difference p1 p0) _ _ (constant_is p a)
       (difference_of p p1 p0 _ _ (top_is p (pieces.top 1)) (top_is p (pieces.top 0)))
-      ∙ numbers_are (λ j. top_value (pieces.top j) p) a p.n)
+      ∙ numbers_are (λ j. top_value (pieces.top j) p) a p)
       (identity_at p pieces c (pair_of_tops pieces.top a) certified.identity)
 
   recurrence_telescopes : Telescopes value f.poly (pair_recurrence a c)
@@ -99,27 +99,26 @@ module _ (f : ProperTerm) (value : Point → Fraction) (pieces : Pieces) (a : Me
           carrier_next = at.carrier_next;
           equal = subst (λ z. z ≈ fraction_difference (certificate c (later_k p (pos 1))) (certificate c p)) (same_side value a c p) at.equal;
         };
-    ranges = λ p.n lo count both poles.
-        subst (λ (g : ℤ → Fraction). sum_over_range g lo count ≈ between_ends (certificate c p.n) lo count) (λ i p.k. same_side value a c p i)
-        (recurrence_telescopes.ranges p.n lo count (λ i l. ((both i l).0, ((both i l).1, tt))) poles);
+    ranges = λ p count both poles.
+        subst (λ (g : Point → Fraction). sum_over_range g p count ≈ between_ends (certificate c) p count) (λ i q. same_side value a c q i)
+        (recurrence_telescopes.ranges p count (λ i l. ((both i l).0, ((both i l).1, tt))) poles);
     ratio = λ p both carrier off. recurrence_telescopes.ratio p (both.0, (both.1, tt)) carrier off;
   }
 
   pub pair_sums_vanish : (ends : Ends) → GiveEnds f ends → PairSumsVanish value ends a c
-  pair_sums_vanish ends give p.n lowest highest between both poles =
-      let s : ℤ → Fraction = natural_sum value ends in
-      subst (λ z. z ≈ of_whole (pos 0)) (same_side (λ m p.k. s m) a c p.n (pos 0))
+  pair_sums_vanish ends give p lowest highest between both poles =
+      subst (λ z. z ≈ of_whole (pos 0)) (same_side (natural_sum value ends) a c p)
       (natural_sums_vanish f value ends 1 (pair_recurrence a c) has give
-      (certified.goes_with.carrier ∙ are.carrier) refl recurrence_telescopes.ranges p.n lowest highest each
-      (record { defined = λ p.k l u. ((both p.k l u).0, ((both p.k l u).1, tt)); poles = poles }))
+      (certified.goes_with.carrier ∙ are.carrier) refl recurrence_telescopes.ranges p lowest highest each
+      (record { defined = λ k l u. ((both k l u).0, ((both k l u).1, tt)); poles = poles }))
     where
       here : p.n +ℤ pos 0 ≡ p.n
       here = omega (arith, ints)
 
-      each : (j : ℕ) → j < 2 → (lowest ≤ℤ ends.low (p.n +ℤ pos j)) × (ends.high (p.n +ℤ pos j) ≤ℤ highest)
+      each : (j : ℕ) → j < 2 → (lowest ≤ℤ ends.low (later_n p (pos j))) × (ends.high (later_n p (pos j)) ≤ℤ highest)
       each zero l = (
-        subst (λ (m : ℤ). lowest ≤ℤ ends.low m) (sym here) between.low_here,
-        subst (λ (m : ℤ). ends.high m ≤ℤ highest) (sym here) between.high_here,
+        subst (λ (m : ℤ). lowest ≤ℤ ends.low (record p { n = m })) (sym here) between.low_here,
+        subst (λ (m : ℤ). ends.high (record p { n = m }) ≤ℤ highest) (sym here) between.high_here,
       )
       each (suc zero) l = (between.low_next, between.high_next)
       each (suc (suc j)) l = absurd (omega (arith, l))

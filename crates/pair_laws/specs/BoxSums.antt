@@ -1,8 +1,8 @@
 -- What is said of a box: the two sums of the companion identity in lowest terms, both 0 for an empty box, or the first point at which something
 -- is undefined, n rising and then k.
-use Rattle.std.specs.Prelude.{◌≡◌, ℤ, pos, ◌<ℤ◌, ◌⊎◌}
+use Rattle.std.specs.Prelude.{◌≡◌, pos, ◌<ℤ◌, ◌⊎◌}
 use Rattle.ring_laws.specs.Meaning.{Meaning}
-use Rattle.hypergeometric.specs.Point.{Point, point}
+use Rattle.hypergeometric.specs.Point.{Point}
 use Rattle.hypergeometric.specs.Fraction.{Fraction, of_whole}
 use Rattle.hypergeometric.specs.Claim.{Claim}
 use Rattle.term_classes.specs.Divisors.{lowest_terms}
@@ -13,15 +13,15 @@ pub data BoxSums : Type 0 where
   sides : (left right : Fraction) → BoxSums
   undefined_at : (p : Point) → BoxSums
 
--- the point comes before the other one
-abbrev pub ComesBefore : ℤ → Point → ℤ → Type 0
-ComesBefore m l p = (m <ℤ p.n) ⊎ ((m ≡ p.n) × (l <ℤ p.k))
+-- the first point comes before the other one
+abbrev pub ComesBefore : Point → Point → Type 0
+ComesBefore q p = (q.n <ℤ p.n) ⊎ ((q.n ≡ p.n) × (q.k <ℤ p.k))
 
 -- the point is in the box, something is undefined there, and nothing is at the points of the box before it
 pub record IsFirstUndefined (value : Point → Fraction) (a : Meaning) (c : Claim) (b : Box) (p : Point) : Type 0 where
   pub inside : IsInBox b p
   pub undefined : ¬ IsClearAt value a c p
-  pub before : (m l : ℤ) → IsInBox b m l → ComesBefore m l p → IsClearAt value a c m l
+  pub before : (q : Point) → IsInBox b q → ComesBefore q p → IsClearAt value a c q
 
 -- the box has points and is clear, and these are its two sums in lowest terms
 pub record AreSides (value : Point → Fraction) (a : Meaning) (c : Claim) (b : Box) (left right : Fraction) : Type 0 where

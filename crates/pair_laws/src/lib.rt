@@ -5,8 +5,9 @@
 //! Read `specs/Pairs.antt`, `specs/CertifiedPairs.antt`, then `specs/Companion.antt` and `specs/BoxSums.antt`.
 #![tactic(auto)]
 
-ghost use Rattle.std.specs.Prelude.{◌≡◌, ℤ, Some};
+ghost use Rattle.std.specs.Prelude.{◌≡◌, Some};
 ghost use Rattle.ring_laws.specs.Meaning.{Meaning};
+ghost use Rattle.hypergeometric.specs.Point.{Point};
 ghost use Rattle.hypergeometric.specs.Fraction.{Fraction};
 ghost use Rattle.hypergeometric.specs.LinearForm.{LinearForm};
 ghost use Rattle.hypergeometric.specs.ProperTerm.{ProperTerm};
@@ -23,22 +24,22 @@ ghost use Rattle.pair_laws.specs.BoxSums.{BoxSums, sides, AreBoxSums};
 
 /// The claim of a pair gives a WZ pair, and over the natural range the sums of its term don't change (A=B chapter 7).
 pub fn certified_pairs_are_pairs()
-    ensures pair { (f : ProperTerm) (value : ℤ → ℤ → Fraction) (pieces : Pieces) (a : Meaning) (c : Claim) → IsProper f → HasValue f value
+    ensures pair { (f : ProperTerm) (value : Point → Fraction) (pieces : Pieces) (a : Meaning) (c : Claim) → IsProper f → HasValue f value
         → ArePiecesOf pieces f 1 → IsCertifiedPair c a pieces → IsPair value f.poly a c }
-    ensures vanish { (f : ProperTerm) (value : ℤ → ℤ → Fraction) (pieces : Pieces) (a : Meaning) (c : Claim) (ends : LinearForm × LinearForm)
+    ensures vanish { (f : ProperTerm) (value : Point → Fraction) (pieces : Pieces) (a : Meaning) (c : Claim) (ends : LinearForm × LinearForm)
         → IsProper f → HasValue f value → ArePiecesOf pieces f 1 → IsCertifiedPair c a pieces → natural_range f.down ≡ Some ends
         → PairSumsVanish value (ends_of ends) a c }
 {}
 
 /// Every pair has the companion identity over every box without an undefined point.
 pub fn pairs_have_companions()
-    ensures companion { (value : ℤ → ℤ → Fraction) (poly a : Meaning) (c : Claim) → IsPair value poly a c → HasCompanion value a c }
+    ensures companion { (value : Point → Fraction) (poly a : Meaning) (c : Claim) → IsPair value poly a c → HasCompanion value a c }
 {}
 
 /// Of a box one thing only can be said, and its two sums in lowest terms are the same fraction.
 pub fn boxes_have_one_answer()
-    ensures only { (value : ℤ → ℤ → Fraction) (a : Meaning) (c : Claim) (b : Box) (x y : BoxSums) → AreBoxSums value a c b x
+    ensures only { (value : Point → Fraction) (a : Meaning) (c : Claim) (b : Box) (x y : BoxSums) → AreBoxSums value a c b x
         → AreBoxSums value a c b y → x ≡ y }
-    ensures agree { (value : ℤ → ℤ → Fraction) (a : Meaning) (c : Claim) (b : Box) (left right : Fraction) → HasCompanion value a c
+    ensures agree { (value : Point → Fraction) (a : Meaning) (c : Claim) (b : Box) (left right : Fraction) → HasCompanion value a c
         → AreBoxSums value a c b (sides left right) → left ≡ right }
 {}

@@ -5,6 +5,7 @@ use Rattle.std.specs.List.{AllByRecursion}
 use Rattle.std.specs.Ordering.{int_eq}
 use Rattle.std.specs.Prelude.{if◌then◌else◌, ℤ, pos, negsuc, neg_ℤ, ◌+ℤ◌, ◌*ℤ◌}
 use Rattle.ring_solver.proofs.Read.{ring_z, reading_z}
+use Rattle.hypergeometric.specs.Point.{Point}
 use Rattle.hypergeometric.specs.Fraction.{Fraction}
 use Rattle.hypergeometric.specs.LinearForm.{LinearForm, Factor, form_value}
 use Rattle.hypergeometric.specs.FormOrder.{IsFactor}
@@ -46,17 +47,17 @@ some_power x [] h all = absurd h
 some_power x (y ∷ ys) (inl e) all = subst (λ (w : Factor). 1 ≤ w.power) e all.0.some
 some_power x (y ∷ ys) (inr h) all = some_power x ys h all.1
 
-low_value : (g : LinearForm) (m : ℤ) → form_value (low_end g) m (pos 0) ≡ neg_ℤ (at_no_k g m)
-low_value g m = turned g.n_slope m g.offset
+low_value : (g : LinearForm) (p : Point) → form_value (low_end g) (record p { k = pos 0 }) ≡ neg_ℤ (at_no_k g p)
+low_value g p = turned g.n_slope p.n g.k_slope g.offset
   where
-    turned : (s m o : ℤ) → neg_ℤ s *ℤ m +ℤ pos 0 *ℤ pos 0 +ℤ neg_ℤ o ≡ neg_ℤ (s *ℤ m +ℤ o)
-    turned s m o = ring_z (s ∷ m ∷ o ∷ []) (search reading_z depth 40 fits 20000) refl
+    turned : (s m t o : ℤ) → neg_ℤ s *ℤ m +ℤ pos 0 *ℤ pos 0 +ℤ neg_ℤ o ≡ neg_ℤ (s *ℤ m +ℤ t *ℤ pos 0 +ℤ o)
+    turned s m t o = ring_z (s ∷ m ∷ t ∷ o ∷ []) (search reading_z depth 40 fits 20000) refl
 
-high_value : (g : LinearForm) (m : ℤ) → form_value (high_end g) m (pos 0) ≡ at_no_k g m
-high_value g m = plain g.n_slope m g.offset
+high_value : (g : LinearForm) (p : Point) → form_value (high_end g) (record p { k = pos 0 }) ≡ at_no_k g p
+high_value g p = plain g.n_slope p.n g.k_slope g.offset
   where
-    plain : (s m o : ℤ) → s *ℤ m +ℤ pos 0 *ℤ pos 0 +ℤ o ≡ s *ℤ m +ℤ o
-    plain s m o = ring_z (s ∷ m ∷ o ∷ []) (search reading_z depth 40 fits 20000) refl
+    plain : (s m t o : ℤ) → s *ℤ m +ℤ pos 0 *ℤ pos 0 +ℤ o ≡ s *ℤ m +ℤ t *ℤ pos 0 +ℤ o
+    plain s m t o = ring_z (s ∷ m ∷ t ∷ o ∷ []) (search reading_z depth 40 fits 20000) refl
 
 pub natural_ends : (f : ProperTerm) (ends : LinearForm × LinearForm) → AllByRecursion IsFactor f.down → natural_range f.down ≡ Some ends
     → GiveEnds f (ends_of ends)
@@ -75,15 +76,15 @@ natural_ends f ends factors e = by (first_with_slope (pos 1) f.down) refl (first
           rising_stands = up.stands;
           rising_some = some_power up.factor f.down up.stands factors;
           rising_slope = up.same;
-          low = λ m. ap (λ (x : LinearForm × LinearForm). form_value x.0 m (pos 0)) (sym are) ∙ low_value r m ∙ ap (λ g. neg_ℤ (at_no_k g m)) (sym up.is);
+          low = λ p. ap (λ (x : LinearForm × LinearForm). (ends_of x).low p) (sym are) ∙ low_value r p ∙ ap (λ g. neg_ℤ (at_no_k g p)) (sym up.is);
           falling = down.factor;
           falling_stands = down.stands;
           falling_some = some_power down.factor f.down down.stands factors;
           falling_slope = down.same;
-          high = λ m. ap (λ (x : LinearForm × LinearForm). form_value x.1 m (pos 0)) (sym are) ∙ high_value s m ∙ ap (λ g. at_no_k g m) (sym down.is);
+          high = λ p. ap (λ (x : LinearForm × LinearForm). (ends_of x).high p) (sym are) ∙ high_value s p ∙ ap (λ g. at_no_k g p) (sym down.is);
         }
 
-pub certified_sums_vanish : (f : ProperTerm) (value : ℤ → ℤ → Fraction) (pieces : Pieces) (order : ℕ) (c : Claim) (ends : LinearForm × LinearForm)
+pub certified_sums_vanish : (f : ProperTerm) (value : Point → Fraction) (pieces : Pieces) (order : ℕ) (c : Claim) (ends : LinearForm × LinearForm)
     → IsProper f → HasValue f value → ArePiecesOf pieces f order → IsCertified c pieces order → natural_range f.down ≡ Some ends
     → NaturalSumsVanish value (ends_of ends) c
 certified_sums_vanish f value pieces order c ends proper has are certified e =
