@@ -2,6 +2,7 @@
 use Rattle.std.proofs.Common.{◌≡◌, refl, List, [], ◌∷◌, false, Some, None}
 use Rattle.std.specs.Prelude.{pos, negsuc}
 use Rattle.ring_laws.specs.Meaning.{Meaning, number, listed}
+use Rattle.hypergeometric.specs.Point.{point}
 use Rattle.hypergeometric.specs.LinearForm.{LinearForm}
 use Rattle.hypergeometric.specs.Tree.{Tree, tree, literal, variable_n, variable_k, sum_of, power_of, factorial_of, no_parts, part}
 use Rattle.lin_form.specs.Forms.{form_with}
@@ -24,10 +25,10 @@ form_n = form_with (pos 1) (pos 0) (pos 0)
 
 -- the arguments of the binomial coefficient at (5, 2)
 abbrev above : List Argument
-above = arguments_at (pos 5) (pos 2) (factor_with form_n 1 ∷ [])
+above = arguments_at (point (pos 5) (pos 2)) (factor_with form_n 1 ∷ [])
 
 abbrev below : List Argument
-below = arguments_at (pos 5) (pos 2) (factor_with form_k 1 ∷ factor_with form_other 1 ∷ [])
+below = arguments_at (point (pos 5) (pos 2)) (factor_with form_k 1 ∷ factor_with form_other 1 ∷ [])
 
 -- 5!/(2! * 3!): 4 * 5 are left above and 2 below, in pairs 4/2 and 5/1
 pub binomial_left : (left_over above below ≡ 4 ∷ 5 ∷ []) × (left_over below above ≡ 2 ∷ [])
@@ -63,7 +64,7 @@ places = (refl, refl)
 abbrev poly : Meaning
 poly = listed (listed (number (pos 1) ∷ number (negsuc 1) ∷ []) ∷ listed (number (pos 0) ∷ number (pos 3) ∷ []) ∷ [])
 
-pub size : size_at (negsuc 1) (negsuc 4) poly ≡ 35
+pub size : size_at (point (negsuc 1) (negsuc 4)) poly ≡ 35
 size = refl
 
 -- (2/-3)^-2 is 9/4, and (-2)^3 is -8
@@ -72,6 +73,6 @@ pub base_powers : (base_power (number_fraction (pos 2) (negsuc 2)) (negsuc 1) �
 base_powers = (refl, refl)
 
 -- 1/(n - k)^2 at (1, 4)
-pub divisors_of : divisors (factor_with form_other 2 ∷ []) (pos 1) (pos 4)
+pub divisors_of : divisors (factor_with form_other 2 ∷ []) (point (pos 1) (pos 4))
     ≡ number_fraction (pos 1) (negsuc 2) ∷ number_fraction (pos 1) (negsuc 2) ∷ []
 divisors_of = refl

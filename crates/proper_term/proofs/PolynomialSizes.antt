@@ -10,7 +10,7 @@ use Rattle.ring_laws.specs.Meaning.{Meaning, number, listed, items, parted-joine
 use Rattle.ring_laws.specs.Wholes.{number_of, whole_algebra}
 use Rattle.poly_laws.specs.Evaluation.{list_value, ValueInBounds}
 use Rattle.poly_laws.specs.Values.{horner}
-use Rattle.hypergeometric.specs.Point.{Point, point, values}
+use Rattle.hypergeometric.specs.Point.{Point}
 use Rattle.hypergeometric.specs.ProperTerm.{value_in_n}
 use Rattle.proper_term.specs.ValueBounds.{sizes, size_in_n}
 
@@ -47,8 +47,8 @@ within_size f g h v (x ∷ xs) =
 same_size : (x : Meaning) → unsigned_abs (number_of x) ≤ unsigned_abs (number_of x)
 same_size x = omega arith
 
-pub within_size_in_n : (n : ℤ) (c : Meaning) → unsigned_abs (value_in_n c n) ≤ size_in_n n c
-within_size_in_n n c = within_size number_of (λ z. unsigned_abs (number_of z)) same_size n (items c)
+pub within_size_in_n : (p : Point) (c : Meaning) → unsigned_abs (value_in_n c p) ≤ size_in_n p c
+within_size_in_n p c = within_size number_of (λ z. unsigned_abs (number_of z)) same_size p.n (items c)
 
 -- later coefficients count less, where the variable isn't 0
 pub later_less : {A : Type 0} (g : A → ℕ) (v : ℕ) (xs : List A) (i : ℕ) → (v ≡ 0 → length xs ≤ 1) → i < length xs
@@ -75,16 +75,16 @@ coefficient_first f xs (suc i) x some within is =
 
 -- where the next step is out of bounds, the whole is
 pub step_out : (p : Point) (v : ℤ) (ms : List Meaning) (power : ℕ) (m : Meaning) → 0 < power → power ≤ length ms → (p.k ≡ pos 0 → length ms ≤ 1)
-    → drop (power - 1) ms ≡ m ∷ drop power ms → v ≡ horner (λ c. value_in_n c p.n) p.k (drop power ms)
-    → ¬ (size_in_n p.n m + unsigned_abs p.k * unsigned_abs v < 2 ^ 127) → ¬ (sizes (size_in_n p.n) (unsigned_abs p.k) ms < 2 ^ 127)
+    → drop (power - 1) ms ≡ m ∷ drop power ms → v ≡ horner (λ c. value_in_n c p) p.k (drop power ms)
+    → ¬ (size_in_n p m + unsigned_abs p.k * unsigned_abs v < 2 ^ 127) → ¬ (sizes (size_in_n p) (unsigned_abs p.k) ms < 2 ^ 127)
 step_out p v ms power m some within counted first is out small =
-    let size : unsigned_abs v ≤ sizes (size_in_n p.n) (unsigned_abs p.k) (drop power ms) =
-    subst (λ z. unsigned_abs z ≤ sizes (size_in_n p.n) (unsigned_abs p.k) (drop power ms)) (sym is)
-    (within_size (λ c. value_in_n c p.n) (size_in_n p.n) (within_size_in_n p.n) p.k (drop power ms)) in
+    let size : unsigned_abs v ≤ sizes (size_in_n p) (unsigned_abs p.k) (drop power ms) =
+    subst (λ z. unsigned_abs z ≤ sizes (size_in_n p) (unsigned_abs p.k) (drop power ms)) (sym is)
+    (within_size (λ c. value_in_n c p) (size_in_n p) (within_size_in_n p) p.k (drop power ms)) in
     let product = mul-le-mul_left (unsigned_abs p.k) size in
-    let less : sizes (size_in_n p.n) (unsigned_abs p.k) (m ∷ drop power ms) ≤ sizes (size_in_n p.n) (unsigned_abs p.k) ms =
-    subst (λ t. sizes (size_in_n p.n) (unsigned_abs p.k) t ≤ sizes (size_in_n p.n) (unsigned_abs p.k) ms) first
-    (later_less (size_in_n p.n) (unsigned_abs p.k) ms (power - 1) (λ e. counted (zero_size p.k e)) (omega (arith, some, within))) in
+    let less : sizes (size_in_n p) (unsigned_abs p.k) (m ∷ drop power ms) ≤ sizes (size_in_n p) (unsigned_abs p.k) ms =
+    subst (λ t. sizes (size_in_n p) (unsigned_abs p.k) t ≤ sizes (size_in_n p) (unsigned_abs p.k) ms) first
+    (later_less (size_in_n p) (unsigned_abs p.k) ms (power - 1) (λ e. counted (zero_size p.k e)) (omega (arith, some, within))) in
     out (omega (arith, product, less, small))
   where
     zero_size : (z : ℤ) → unsigned_abs z ≡ 0 → z ≡ pos 0

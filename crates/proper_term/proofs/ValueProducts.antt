@@ -102,19 +102,19 @@ factors_value f p t d down =
     let whole = proper_value_defined f p t d in
     let ns = power_kept f.n_base p.n t.n_base in
     let ks = power_kept f.k_base p.k t.k_base in
-    let e : Fraction = of_whole (poly_value f.poly p) in
+    let y : Fraction = of_whole (poly_value f.poly p) in
     let u = product_over factorial_value f.up p in
     let o = product_over inverse_factorial_value f.down p in
     let l = product_over (λ z. fraction_inverse (of_whole z)) f.over p in
     let a = whole_power f.n_base p.n in
     let b = whole_power f.k_base p.k in
     let rest : product_of (of_whole (poly_value f.poly p) ∷ base_power f.n_base p.n ∷ base_power f.k_base p.k ∷ divisors f.over p)
-    ≈ fraction_product e (fraction_product a (fraction_product b l)) =
-    equal_products (equal_to_itself e one_not_zero) (equal_products ns (equal_products ks over)) in
-    let defined : IsDefined (fraction_product u o) = inner_defined f.scale e a b u o l whole in
+    ≈ fraction_product y (fraction_product a (fraction_product b l)) =
+    equal_products (equal_to_itself y one_not_zero) (equal_products ns (equal_products ks over)) in
+    let defined : IsDefined (fraction_product u o) = inner_defined f.scale y a b u o l whole in
     let above = factorials_kept f p d.up down defined in
     let joined = equal_chain (product_joined (factorial_factors f p) (of_whole
     (poly_value f.poly p) ∷ base_power f.n_base p.n ∷ base_power f.k_base p.k
     ∷ divisors f.over p) above.left_defined rest.left_defined) (equal_products above rest) in
     let scaled = equal_products (equal_to_itself f.scale t.scale.bottom) joined in
-    equal_chain scaled (reordered f.scale u o e a b l scaled.right_defined)
+    equal_chain scaled (reordered f.scale u o y a b l scaled.right_defined)

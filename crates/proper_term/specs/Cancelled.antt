@@ -1,7 +1,7 @@
 -- What is left of a quotient of factorials where common factors are cancelled: of m! as 1 * 2 * .. * m, each number i of at least 2
 -- as often as it stands above more often than below, and the other way round.
-use Rattle.std.specs.Prelude.{ℕ, zero, suc, ◌+◌, ◌-◌, max, if◌then◌else◌, nat_le, pos, ℤ, unsigned_abs, List, [], ◌∷◌, ◌++◌, map, replicate}
-use Rattle.hypergeometric.specs.Point.{point, values}
+use Rattle.std.specs.Prelude.{ℕ, zero, suc, ◌+◌, ◌-◌, max, if◌then◌else◌, nat_le, pos, unsigned_abs, List, [], ◌∷◌, ◌++◌, map, replicate}
+use Rattle.hypergeometric.specs.Point.{Point}
 use Rattle.hypergeometric.specs.Fraction.{Fraction}
 use Rattle.hypergeometric.specs.LinearForm.{Factor, form_value}
 
@@ -11,7 +11,7 @@ pub record Argument : Type 0 where
   pub power : ℕ
 
 -- the values of the forms at a point at which none is negative
-abbrev pub arguments_at : ℤ → ℤ → List Factor → List Argument
+abbrev pub arguments_at : Point → List Factor → List Argument
 arguments_at p xs = map (λ x. record { number = unsigned_abs (form_value x.form p); power = x.power }) xs
 
 -- how often i stands in number! to a power: the power where i is at most the number, and else 0

@@ -5,6 +5,7 @@ ghost use Rattle.ring_laws.specs.declared.faults.RingFault.TheVariants.{Memory};
 ghost use Rattle.lin_form.specs.ListOf.{list_of};
 ghost use Rattle.proper_term.specs.Cancelled as spec;
 ghost use Rattle.proper_term.specs.Cancelled.{arguments_at, at_least, counted};
+ghost use Rattle.proper_term.specs.Points.{point_of};
 ghost use Rattle.proper_term.specs.Cursors.{argument_of, IsNextOf, IsNextOfBoth};
 
 use crate::argument::Argument;
@@ -20,7 +21,7 @@ pub(crate) fn arguments(
     list: &FactorList,
     point: Point,
 ) -> Result<Vec<Argument>, RingFault>
-    ensures arguments { IfOk result (λ found. map argument_of found.items ≡ arguments_at point.n point.k (list_of list.now).factors) }
+    ensures arguments { IfOk result (λ found. map argument_of found.items ≡ arguments_at (point_of point) (list_of list.now).factors) }
     ensures memory { IfErr result (λ fault. fault ≡ Memory) }
 {
     let mut found = Vec::new(alloc);

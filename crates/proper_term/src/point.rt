@@ -5,6 +5,7 @@ ghost use Rattle.std.specs.List.{AllByRecursion};
 ghost use Rattle.hypergeometric.specs.LinearForm.{form_value};
 ghost use Rattle.hypergeometric.specs.ProperTerm.{IsDefinedAt};
 ghost use Rattle.lin_form.specs.ListOf.{list_of};
+ghost use Rattle.proper_term.specs.Points.{point_of};
 ghost use Rattle.proper_term.specs.TermOf.{term_of};
 
 use crate::proper::Proper;
@@ -22,6 +23,7 @@ impl Point {
     ghost use Rattle.std.specs.Prelude.{◌≡◌, ◌<◌, ◌^◌, unsigned_abs};
     ghost use Rattle.hypergeometric.specs.LinearForm.{form_value};
     ghost use Rattle.lin_form.specs.Forms.{form_of};
+    ghost use Rattle.proper_term.specs.Points.{point_of};
 
     /// n as a `Whole`.
     pub(crate) fn whole_n(self) -> Whole
@@ -43,14 +45,14 @@ impl Point {
 
     /// The value of the form at the point.
     pub(crate) fn value_of(self, form: &LinForm) -> i128
-        ensures value { result ≡ form_value (form_of form.now) self.n self.k }
+        ensures value { result ≡ form_value (form_of form.now) (point_of self) }
     {
         form.at(self.n, self.k)
     }
 
     /// The same, as a `Whole`.
     pub(crate) fn whole_value_of(self, form: &LinForm) -> Whole
-        ensures value { result.value ≡ form_value (form_of form.now) self.n self.k }
+        ensures value { result.value ≡ form_value (form_of form.now) (point_of self) }
         ensures small { unsigned_abs result.value < 2 ^ 72 }
     {
         Whole::new(self.value_of(form)).unwrap()
@@ -59,7 +61,7 @@ impl Point {
 
 // Whether no form of the list is negative at the point.
 pub(crate) fn none_negative(list: &FactorList, point: Point) -> bool
-    ensures test { IsTrue result ↔ AllByRecursion (λ x. pos 0 ≤ℤ form_value x.form point.n point.k) (list_of list.now).factors }
+    ensures test { IsTrue result ↔ AllByRecursion (λ x. pos 0 ≤ℤ form_value x.form (point_of point)) (list_of list.now).factors }
 {
     for index in 0..list.len() {
         let Some((form, _)) = list.item(index) else {
@@ -74,7 +76,7 @@ pub(crate) fn none_negative(list: &FactorList, point: Point) -> bool
 
 // Whether no form of the list is 0 at the point.
 fn none_zero(list: &FactorList, point: Point) -> bool
-    ensures test { IsTrue result ↔ AllByRecursion (λ x. form_value x.form point.n point.k ≢ pos 0) (list_of list.now).factors }
+    ensures test { IsTrue result ↔ AllByRecursion (λ x. form_value x.form (point_of point) ≢ pos 0) (list_of list.now).factors }
 {
     for index in 0..list.len() {
         let Some((form, _)) = list.item(index) else {
@@ -89,7 +91,7 @@ fn none_zero(list: &FactorList, point: Point) -> bool
 
 // Whether the term is defined at the point.
 pub(crate) fn is_defined_at(term: &Proper, point: Point) -> bool
-    ensures test { IsTrue result ↔ IsDefinedAt (term_of term.now) point.n point.k }
+    ensures test { IsTrue result ↔ IsDefinedAt (term_of term.now) (point_of point) }
 {
     if !none_negative(term.up(), point) {
         return false;

@@ -3,7 +3,9 @@
 ghost use Rattle.std.specs.Prelude.{◌≡◌, ◌≢◌, ◌≤◌, ◌<◌, ◌^◌, ◌+◌, ◌*◌, ◌+ℤ◌, ◌*ℤ◌, pos, unsigned_abs, map, take, length, IfOk, IfErr};
 ghost use Rattle.ring_laws.specs.Answer.{OnFault};
 ghost use Rattle.poly_laws.specs.Values.{horner};
+ghost use Rattle.hypergeometric.specs.Point.{point};
 ghost use Rattle.hypergeometric.specs.ProperTerm.{poly_value, value_in_n};
+ghost use Rattle.proper_term.specs.Points.{point_of};
 ghost use Rattle.proper_term.specs.ValueBounds.{sizes, size_in_n, size_at};
 
 use crate::point::Point;
@@ -19,8 +21,9 @@ fn with_constant(
     k: Whole,
     rest: Whole,
 ) -> Result<Whole, RingFault>
-    ensures value { IfOk result (λ value. value.value ≡ value_in_n (⟦<Zn as Ring>⟧.meaning constant.now) n.value +ℤ k.value *ℤ rest.value) }
-    ensures too_large { IfErr result (OnFault (¬ (size_in_n n.value
+    ensures value { IfOk result (λ value. value.value ≡ value_in_n (⟦<Zn as Ring>⟧.meaning constant.now) (point n.value k.value)
+        +ℤ k.value *ℤ rest.value) }
+    ensures too_large { IfErr result (OnFault (¬ (size_in_n (point n.value k.value)
         (⟦<Zn as Ring>⟧.meaning constant.now) + unsigned_abs k.value * unsigned_abs rest.value < 2 ^ 127))) }
 {
     let constant = constant.eval(alloc, &n)?;
@@ -37,8 +40,9 @@ fn value_of_coefficients(
     k: Whole,
 ) -> Result<Whole, RingFault>
     requires counted { k.value ≡ pos 0 → length coefficients.now ≤ 1 }
-    ensures value { IfOk result (λ value. value.value ≡ horner (λ c. value_in_n c n.value) k.value (map ⟦<Zn as Ring>⟧.meaning coefficients.now)) }
-    ensures too_large { IfErr result (OnFault (¬ (sizes (size_in_n n.value) (unsigned_abs k.value)
+    ensures value { IfOk result (λ value. value.value ≡ horner (λ c. value_in_n c (point n.value k.value)) k.value
+        (map ⟦<Zn as Ring>⟧.meaning coefficients.now)) }
+    ensures too_large { IfErr result (OnFault (¬ (sizes (size_in_n (point n.value k.value)) (unsigned_abs k.value)
         (map ⟦<Zn as Ring>⟧.meaning coefficients.now) < 2 ^ 127))) }
 {
     let mut value = Whole::zero(alloc)?;
@@ -52,8 +56,8 @@ fn value_of_coefficients(
 
 // The value of the polynomial, `TooLarge` only where the sum of the magnitudes reaches 2^127.
 pub(crate) fn polynomial_value(alloc: Global, poly: &Znk, point: Point) -> Result<Whole, RingFault>
-    ensures value { IfOk result (λ value. value.value ≡ poly_value (⟦<Znk as Ring>⟧.meaning poly.now) point.n point.k) }
-    ensures too_large { IfErr result (OnFault (¬ (size_at point.n point.k (⟦<Znk as Ring>⟧.meaning poly.now) < 2 ^ 127))) }
+    ensures value { IfOk result (λ value. value.value ≡ poly_value (⟦<Znk as Ring>⟧.meaning poly.now) (point_of point)) }
+    ensures too_large { IfErr result (OnFault (¬ (size_at (point_of point) (⟦<Znk as Ring>⟧.meaning poly.now) < 2 ^ 127))) }
 {
     let n = point.whole_n();
     let k = point.whole_k();

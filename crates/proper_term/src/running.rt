@@ -10,6 +10,7 @@ ghost use Rattle.hypergeometric.specs.TermFacts.{IsNumber};
 ghost use Rattle.lin_form.specs.ListOf.{list_of};
 ghost use Rattle.poly_fraction.specs.FractionOf.{fraction_of};
 ghost use Rattle.proper_term.specs.Fields.{whole_fraction, number_fraction};
+ghost use Rattle.proper_term.specs.Points.{point_of};
 ghost use Rattle.proper_term.specs.Runs.{GivesRun, IsInLowestTerms};
 ghost use Rattle.proper_term.specs.ValueBounds.{base_power, divisors};
 
@@ -147,9 +148,9 @@ pub(crate) fn over_forms(
     over: &FactorList,
     point: Point,
 ) -> Result<Frac<Whole>, RingFault>
-    requires none_zero { AllByRecursion (λ x. form_value x.form point.n point.k ≢ pos 0) (list_of over.now).factors }
+    requires none_zero { AllByRecursion (λ x. form_value x.form (point_of point) ≢ pos 0) (list_of over.now).factors }
     requires lowest { IsInLowestTerms (whole_fraction (fraction_of running)) }
-    ensures run { GivesRun fraction_of (whole_fraction (fraction_of running)) (divisors (list_of over.now).factors point.n point.k) result }
+    ensures run { GivesRun fraction_of (whole_fraction (fraction_of running)) (divisors (list_of over.now).factors (point_of point)) result }
 {
     let mut running = running;
     for index in 0..over.len() {

@@ -2,10 +2,12 @@
 
 ghost use Rattle.std.specs.Prelude.{◌≡◌, ◌≢◌, ◌∷◌, ◌↔◌, ◌<◌, ◌^◌, [], pos, IfOk, IfErr, IfSome, IsNone};
 ghost use Rattle.ring_laws.specs.Answer.{OnFault};
+ghost use Rattle.hypergeometric.specs.Point.{point};
 ghost use Rattle.hypergeometric.specs.Fraction.{◌≈◌, of_whole};
 ghost use Rattle.hypergeometric.specs.ProperTerm.{IsDefinedAt, NoneNegative, NoneZero, poly_value, proper_value};
 ghost use Rattle.poly_fraction.specs.FractionOf.{fraction_of};
 ghost use Rattle.proper_term.specs.Fields.{whole_fraction};
+ghost use Rattle.proper_term.specs.Points.{point_of};
 ghost use Rattle.proper_term.specs.Runs.{GivesRun, IsInLowestTerms};
 ghost use Rattle.proper_term.specs.TermOf.{term_of};
 ghost use Rattle.proper_term.specs.ValueBounds.{ValueInBounds, IsRunInBounds, base_power, divisors, factorial_factors, size_at};
@@ -27,10 +29,10 @@ use std::alloc::Global;
 /// turn by what is left of the factorials, by the polynomial's value, the powers of the bases and one over the forms of over, and
 /// each product, before it is brought to lowest terms, has to have numerator and denominator below 2^127.
 pub fn value(alloc: Global, term: &Proper, n: i64, k: i64) -> Result<Option<Frac<Whole>>, RingFault>
-    ensures none { IfOk result (λ found. IsNone found ↔ ¬ IsDefinedAt (term_of term.now) n k) }
-    ensures value { IfOk result (λ found. IfSome found (λ f. whole_fraction (fraction_of f) ≈ proper_value (term_of term.now) n k)) }
+    ensures none { IfOk result (λ found. IsNone found ↔ ¬ IsDefinedAt (term_of term.now) (point n k)) }
+    ensures value { IfOk result (λ found. IfSome found (λ f. whole_fraction (fraction_of f) ≈ proper_value (term_of term.now) (point n k))) }
     ensures lowest { IfOk result (λ found. IfSome found (λ f. IsInLowestTerms (whole_fraction (fraction_of f)))) }
-    ensures too_large { IfErr result (OnFault (¬ ValueInBounds (term_of term.now) n k)) }
+    ensures too_large { IfErr result (OnFault (¬ ValueInBounds (term_of term.now) (point n k))) }
 {
     let point = Point { n, k };
     if !is_defined_at(term, point) {
@@ -42,10 +44,10 @@ pub fn value(alloc: Global, term: &Proper, n: i64, k: i64) -> Result<Option<Frac
 
 // The value where the term is defined. A factorial below at a negative number makes it 0.
 fn defined_value(alloc: Global, term: &Proper, point: Point) -> Result<Frac<Whole>, RingFault>
-    requires defined { IsDefinedAt (term_of term.now) point.n point.k }
-    ensures value { IfOk result (λ f. whole_fraction (fraction_of f) ≈ proper_value (term_of term.now) point.n point.k) }
+    requires defined { IsDefinedAt (term_of term.now) (point_of point) }
+    ensures value { IfOk result (λ f. whole_fraction (fraction_of f) ≈ proper_value (term_of term.now) (point_of point)) }
     ensures lowest { IfOk result (λ f. IsInLowestTerms (whole_fraction (fraction_of f))) }
-    ensures too_large { IfErr result (OnFault (¬ ValueInBounds (term_of term.now) point.n point.k)) }
+    ensures too_large { IfErr result (OnFault (¬ ValueInBounds (term_of term.now) (point_of point))) }
 {
     if !none_negative(term.down(), point) {
         return Ok(zero());
@@ -63,11 +65,11 @@ fn zero() -> Frac<Whole>
 
 // The value where no factorial is that of a negative number. A polynomial that is 0 there makes it 0.
 fn product_value(alloc: Global, term: &Proper, point: Point) -> Result<Frac<Whole>, RingFault>
-    requires defined { IsDefinedAt (term_of term.now) point.n point.k }
-    requires down { NoneNegative (term_of term.now).down point.n point.k }
-    ensures value { IfOk result (λ f. whole_fraction (fraction_of f) ≈ proper_value (term_of term.now) point.n point.k) }
+    requires defined { IsDefinedAt (term_of term.now) (point_of point) }
+    requires down { NoneNegative (term_of term.now).down (point_of point) }
+    ensures value { IfOk result (λ f. whole_fraction (fraction_of f) ≈ proper_value (term_of term.now) (point_of point)) }
     ensures lowest { IfOk result (λ f. IsInLowestTerms (whole_fraction (fraction_of f))) }
-    ensures too_large { IfErr result (OnFault (¬ IsRunInBounds (term_of term.now) point.n point.k)) }
+    ensures too_large { IfErr result (OnFault (¬ IsRunInBounds (term_of term.now) (point_of point))) }
 {
     let running = scaled_factorials(alloc, term, point)?;
     let poly = poly_at(alloc, term, point)?;
@@ -79,15 +81,15 @@ fn product_value(alloc: Global, term: &Proper, point: Point) -> Result<Frac<Whol
 
 // The value of the term's polynomial.
 fn poly_at(alloc: Global, term: &Proper, point: Point) -> Result<Whole, RingFault>
-    ensures value { IfOk result (λ value. value.value ≡ poly_value (term_of term.now).poly point.n point.k) }
-    ensures too_large { IfErr result (OnFault (¬ (size_at point.n point.k (term_of term.now).poly < 2 ^ 127))) }
+    ensures value { IfOk result (λ value. value.value ≡ poly_value (term_of term.now).poly (point_of point)) }
+    ensures too_large { IfErr result (OnFault (¬ (size_at (point_of point) (term_of term.now).poly < 2 ^ 127))) }
 {
     polynomial_value(alloc, term.poly(), point)
 }
 
 // The scale times the quotient of the factorials.
 fn scaled_factorials(alloc: Global, term: &Proper, point: Point) -> Result<Frac<Whole>, RingFault>
-    ensures run { GivesRun fraction_of (term_of term.now).scale (factorial_factors (term_of term.now) point.n point.k) result }
+    ensures run { GivesRun fraction_of (term_of term.now).scale (factorial_factors (term_of term.now) (point_of point)) result }
 {
     let above = arguments(alloc, term.up(), point)?;
     let below = arguments(alloc, term.down(), point)?;
@@ -135,9 +137,9 @@ fn over_divisors(
     term: &Proper,
     point: Point,
 ) -> Result<Frac<Whole>, RingFault>
-    requires over { NoneZero (term_of term.now).over point.n point.k }
+    requires over { NoneZero (term_of term.now).over (point_of point) }
     requires lowest { IsInLowestTerms (whole_fraction (fraction_of running)) }
-    ensures run { GivesRun fraction_of (whole_fraction (fraction_of running)) (divisors (term_of term.now).over point.n point.k) result }
+    ensures run { GivesRun fraction_of (whole_fraction (fraction_of running)) (divisors (term_of term.now).over (point_of point)) result }
 {
     over_forms(alloc, running, term.over(), point)
 }
@@ -150,11 +152,11 @@ fn times_factors(
     term: &Proper,
     point: Point,
 ) -> Result<Frac<Whole>, RingFault>
-    requires over { NoneZero (term_of term.now).over point.n point.k }
+    requires over { NoneZero (term_of term.now).over (point_of point) }
     requires running { (whole_fraction (fraction_of running.now)).top ≢ pos 0 }
     requires poly { poly.value ≢ pos 0 }
     ensures run { GivesRun fraction_of (whole_fraction (fraction_of running.now)) (of_whole poly.value ∷ base_power (term_of term.now).n_base point.n
-        ∷ base_power (term_of term.now).k_base point.k ∷ divisors (term_of term.now).over point.n point.k) result }
+        ∷ base_power (term_of term.now).k_base point.k ∷ divisors (term_of term.now).over (point_of point)) result }
 {
     let running = times(alloc, running, poly, Whole { value: 1 })?;
     let running = times_n_power(alloc, &running, term, point)?;

@@ -6,6 +6,7 @@ use Rattle.lin_form.specs.FactorLists.{factor_with}
 use Rattle.lin_form.specs.ListOf.{list_of}
 use Rattle.proper_term.specs.Cancelled.{Argument, arguments_at}
 use Rattle.proper_term.specs.Cursors.{argument_of}
+use Rattle.proper_term.specs.Points.{point_of}
 use Rattle.proper_term.proofs.NextArguments.{taken_item, map_ended, argument_with}
 use Rattle.proper_term.proofs.arguments.arguments.Goals as goal
 
@@ -17,7 +18,7 @@ loop-index-preserved c =
     ap (map argument_of) (c.in_ok-push.ensures.items)
     ∙ map_ended argument_of c.loop-index.found.items _
     ∙ ap (λ (ys : List Argument). ys ++ argument_with c.magnitude-number.result c.in-Some.power ∷ []) c.loop-index.invariant
-    ∙ (λ i. arguments_at c.args.point.n c.args.point.k (take c.loop-index.index xs)
+    ∙ (λ i. arguments_at (point_of c.args.point) (take c.loop-index.index xs)
     ++ argument_with ((c.magnitude-number.ensures.magnitude ∙ ap unsigned_abs c.whole_value_of.ensures.value) i) c.in-Some.power ∷ [])
-    ∙ sym (taken_item (λ (y : Factor). argument_with (unsigned_abs (form_value y.form c.args.point.n c.args.point.k)) y.power) xs c.loop-index.index x
+    ∙ sym (taken_item (λ (y : Factor). argument_with (unsigned_abs (form_value y.form (point_of c.args.point))) y.power) xs c.loop-index.index x
     c.in-Some.ensures.item)

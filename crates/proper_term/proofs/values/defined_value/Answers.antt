@@ -6,6 +6,7 @@ use Rattle.hypergeometric.specs.ProperTerm.{proper_value}
 use Rattle.hypergeometric.proofs.Definedness.{proper_value_defined}
 use Rattle.poly_fraction.specs.FractionOf.{fraction_of}
 use Rattle.proper_term.specs.Fields.{whole_fraction}
+use Rattle.proper_term.specs.Points.{point_of}
 use Rattle.proper_term.specs.TermOf.{term_of}
 use Rattle.proper_term.proofs.ListItems.{negative_all}
 use Rattle.proper_term.proofs.ValueRuns.{err_weaker, proper_fractions}
@@ -16,26 +17,26 @@ use Rattle.proper_term.proofs.values.defined_value.Goals as goal
 pub returns-then-not-none_negative-clause-value : goal.returns-then-not-none_negative-clause-value
 returns-then-not-none_negative-clause-value c =
     let f = term_of c.args.term.now in
-    zero_equal (whole_fraction (fraction_of c.zero.result)) (proper_value f c.args.point.n c.args.point.k) c.zero.ensures.top c.zero.ensures.bottom
-    (proper_value_defined f c.args.point.n c.args.point.k (proper_fractions f c.args.term.now.proper) c.requires.defined)
-    (zero_down f c.args.point.n c.args.point.k c.args.term.now.proper.down.each
+    zero_equal (whole_fraction (fraction_of c.zero.result)) (proper_value f (point_of c.args.point)) c.zero.ensures.top c.zero.ensures.bottom
+    (proper_value_defined f (point_of c.args.point) (proper_fractions f c.args.term.now.proper) c.requires.defined)
+    (zero_down f (point_of c.args.point) c.args.term.now.proper.down.each
     (λ h. true≢false (sym (c.if-not-none_negative.ensures.test.1 (subst
-    (λ (xs : List Factor). AllByRecursion (λ x. pos 0 ≤ℤ form_value x.form c.args.point.n c.args.point.k) xs) (sym c.down.ensures.down)
-    ((negative_all f.down c.args.point.n c.args.point.k).0 h))))))
+    (λ (xs : List Factor). AllByRecursion (λ x. pos 0 ≤ℤ form_value x.form (point_of c.args.point)) xs) (sym c.down.ensures.down)
+    ((negative_all f.down (point_of c.args.point)).0 h))))))
 
 pub returns-then-not-none_negative-clause-lowest : goal.returns-then-not-none_negative-clause-lowest
 returns-then-not-none_negative-clause-lowest c = zero_lowest (whole_fraction (fraction_of c.zero.result)) c.zero.ensures.top c.zero.ensures.bottom
 
 pub product_value-requires-clause-down : goal.product_value-requires-clause-down
 product_value-requires-clause-down c =
-    (negative_all (term_of c.args.term.now).down c.args.point.n c.args.point.k).1
-    (subst (λ (xs : List Factor). AllByRecursion (λ x. pos 0 ≤ℤ form_value x.form c.args.point.n c.args.point.k) xs) c.down.ensures.down
+    (negative_all (term_of c.args.term.now).down (point_of c.args.point)).1
+    (subst (λ (xs : List Factor). AllByRecursion (λ x. pos 0 ≤ℤ form_value x.form (point_of c.args.point)) xs) c.down.ensures.down
     (c.if-not-none_negative.ensures.test.0 refl))
 
 -- the term is defined, and no factorial below is that of a negative number
 pub returns-clause-too_large : goal.returns-clause-too_large
 returns-clause-too_large c =
-    let down = (negative_all (term_of c.args.term.now).down c.args.point.n c.args.point.k).1
-    (subst (λ (xs : List Factor). AllByRecursion (λ x. pos 0 ≤ℤ form_value x.form c.args.point.n c.args.point.k) xs) c.down.ensures.down
+    let down = (negative_all (term_of c.args.term.now).down (point_of c.args.point)).1
+    (subst (λ (xs : List Factor). AllByRecursion (λ x. pos 0 ≤ℤ form_value x.form (point_of c.args.point)) xs) c.down.ensures.down
     (c.if-not-none_negative.ensures.test.0 refl)) in
     err_weaker _ _ c.product_value.result (λ out b. out (b c.requires.defined down)) c.product_value.ensures.too_large

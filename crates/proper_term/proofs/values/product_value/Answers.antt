@@ -8,6 +8,7 @@ use Rattle.hypergeometric.specs.ProperTerm.{poly_value, proper_value}
 use Rattle.hypergeometric.proofs.Definedness.{proper_value_defined}
 use Rattle.poly_fraction.specs.FractionOf.{fraction_of}
 use Rattle.proper_term.specs.Fields.{whole_fraction}
+use Rattle.proper_term.specs.Points.{point_of}
 use Rattle.proper_term.specs.Runs.{GivesRun}
 use Rattle.proper_term.specs.TermOf.{term_of}
 use Rattle.proper_term.specs.ValueBounds.{base_power, divisors, factorial_factors}
@@ -20,16 +21,16 @@ pub returns-in_err-running-clause-too_large : goal.returns-in_err-running-clause
 returns-in_err-running-clause-too_large c =
     let f = term_of c.args.term.now in
     fault_list _ c.from_residual.result c.in_err-running.field-0.0 c.from_residual.ensures.1
-    (fault_weaker c.in_err-running.field-0.0 (λ no b. no (bounds_before f.scale (factorial_factors f c.args.point.n c.args.point.k)
-    (of_whole (poly_value f.poly c.args.point.n c.args.point.k) ∷ base_power f.n_base c.args.point.n ∷ base_power f.k_base c.args.point.k
-    ∷ divisors f.over c.args.point.n c.args.point.k) b.run)) c.in_err-running.ensures.run)
+    (fault_weaker c.in_err-running.field-0.0 (λ no b. no (bounds_before f.scale (factorial_factors f (point_of c.args.point))
+    (of_whole (poly_value f.poly (point_of c.args.point)) ∷ base_power f.n_base c.args.point.n ∷ base_power f.k_base c.args.point.k
+    ∷ divisors f.over (point_of c.args.point)) b.run)) c.in_err-running.ensures.run)
 
 pub returns-then-value-eq0-clause-value : goal.returns-then-value-eq0-clause-value
 returns-then-value-eq0-clause-value c =
     let f = term_of c.args.term.now in
-    zero_equal (whole_fraction (fraction_of c.zero.result)) (proper_value f c.args.point.n c.args.point.k) c.zero.ensures.top c.zero.ensures.bottom
-    (proper_value_defined f c.args.point.n c.args.point.k (proper_fractions f c.args.term.now.proper) c.requires.defined)
-    (zero_poly f c.args.point.n c.args.point.k (sym c.in_ok-poly.ensures.value ∙ omega (arith, ints)))
+    zero_equal (whole_fraction (fraction_of c.zero.result)) (proper_value f (point_of c.args.point)) c.zero.ensures.top c.zero.ensures.bottom
+    (proper_value_defined f (point_of c.args.point) (proper_fractions f c.args.term.now.proper) c.requires.defined)
+    (zero_poly f (point_of c.args.point) (sym c.in_ok-poly.ensures.value ∙ omega (arith, ints)))
 
 pub returns-then-value-eq0-clause-lowest : goal.returns-then-value-eq0-clause-lowest
 returns-then-value-eq0-clause-lowest c = zero_lowest (whole_fraction (fraction_of c.zero.result)) c.zero.ensures.top c.zero.ensures.bottom
@@ -38,15 +39,14 @@ returns-then-value-eq0-clause-lowest c = zero_lowest (whole_fraction (fraction_o
 pub times_factors-requires-clause-running : goal.times_factors-requires-clause-running
 times_factors-requires-clause-running c =
     let f = term_of c.args.term.now in
-    factorials_top f c.args.point.n c.args.point.k (whole_fraction (fraction_of c.in_ok-running.running))
+    factorials_top f (point_of c.args.point) (whole_fraction (fraction_of c.in_ok-running.running))
     (lowest_nonzero f.scale c.args.term.now.proper.scale) c.in_ok-running.ensures.run
 
 -- the run over all factors
 pub returns-clause-value : goal.returns-clause-value
 returns-clause-value c =
     let f = term_of c.args.term.now in
-    let p.n = c.args.point.n in
-    let p.k = c.args.point.k in
+    let p = point_of c.args.point in
     let rest : GivesRun fraction_of (whole_fraction (fraction_of c.in_ok-running.running))
     (of_whole (poly_value f.poly p) ∷ base_power f.n_base p.n ∷ base_power f.k_base p.k ∷ divisors f.over p) c.times_factors.result =
     subst (λ (z : ℤ). GivesRun fraction_of (whole_fraction (fraction_of c.in_ok-running.running))
@@ -60,8 +60,7 @@ returns-clause-value c =
 pub returns-clause-lowest : goal.returns-clause-lowest
 returns-clause-lowest c =
     let f = term_of c.args.term.now in
-    let p.n = c.args.point.n in
-    let p.k = c.args.point.k in
+    let p = point_of c.args.point in
     let rest : GivesRun fraction_of (whole_fraction (fraction_of c.in_ok-running.running))
     (of_whole (poly_value f.poly p) ∷ base_power f.n_base p.n ∷ base_power f.k_base p.k ∷ divisors f.over p) c.times_factors.result =
     subst (λ (z : ℤ). GivesRun fraction_of (whole_fraction (fraction_of c.in_ok-running.running))
@@ -75,8 +74,7 @@ returns-clause-lowest c =
 pub returns-clause-too_large : goal.returns-clause-too_large
 returns-clause-too_large c =
     let f = term_of c.args.term.now in
-    let p.n = c.args.point.n in
-    let p.k = c.args.point.k in
+    let p = point_of c.args.point in
     let rest : GivesRun fraction_of (whole_fraction (fraction_of c.in_ok-running.running))
     (of_whole (poly_value f.poly p) ∷ base_power f.n_base p.n ∷ base_power f.k_base p.k ∷ divisors f.over p) c.times_factors.result =
     subst (λ (z : ℤ). GivesRun fraction_of (whole_fraction (fraction_of c.in_ok-running.running))
