@@ -15,7 +15,7 @@ use Rattle.hypergeometric.specs.Claim.{Claim, left_side, certificate}
 use Rattle.hypergeometric.specs.Telescopes.{Telescopes, sum_over_range, between_ends}
 use Rattle.term_classes.specs.ClassValues.{HasValue}
 use Rattle.term_classes.proofs.FractionPowers.{fraction_same}
-use Rattle.term_pieces.specs.Pieces.{Pieces, ArePiecesOf}
+use Rattle.term_pieces.specs.Pieces.{Pieces, ArePiecesOf, top_at}
 use Rattle.term_pieces.specs.PieceValues.{top_value}
 use Rattle.hypergeometric.specs.NaturalRange.{natural_range}
 use Rattle.division_laws.specs.Polynomials.{constant}
@@ -77,15 +77,15 @@ module _ (f : ProperTerm) (value : Point → Fraction) (pieces : Pieces) (a : Me
   }
 
   identity : (p : Point) → IdentityAt p pieces (pair_recurrence a c)
-      (sum_of_multiples (λ j. top_value (pieces.top j) p) ((level 1).ops.neg a ∷ a ∷ []) p 0)
+      (sum_of_multiples (λ j. top_value (top_at pieces j) p) ((level 1).ops.neg a ∷ a ∷ []) p 0)
   identity p =
-      let p0 = top_polynomial (pieces.top 0) in
-      let p1 = top_polynomial (pieces.top 1) in
+      let p0 = top_polynomial (top_at pieces 0) in
+      let p1 = top_polynomial (top_at pieces 1) in
       subst (λ s. IdentityAt p pieces (pair_recurrence a c) s)
       (product_of p (constant (level 1).ops a) (poly_difference p1 p0) _ _ (constant_is p a)
-      (difference_of p p1 p0 _ _ (top_is p (pieces.top 1)) (top_is p (pieces.top 0)))
-      ∙ numbers_are (λ j. top_value (pieces.top j) p) a p)
-      (identity_at p pieces c (pair_of_tops pieces.top a) certified.identity)
+      (difference_of p p1 p0 _ _ (top_is p (top_at pieces 1)) (top_is p (top_at pieces 0)))
+      ∙ numbers_are (λ j. top_value (top_at pieces j) p) a p)
+      (identity_at p pieces c (pair_of_tops (top_at pieces) a) certified.identity)
 
   recurrence_telescopes : Telescopes value f.poly (pair_recurrence a c)
   recurrence_telescopes = claim_telescopes f value pieces 1 (pair_recurrence a c) (has_fractions f proper) has are goes refl identity

@@ -2,7 +2,7 @@
 use Rattle.std.specs.Prelude.{◌≡◌, ℕ, [], ◌∷◌}
 use Rattle.ring_laws.specs.Meaning.{Meaning}
 use Rattle.hypergeometric.specs.Claim.{Claim}
-use Rattle.term_pieces.specs.Pieces.{Top, Pieces}
+use Rattle.term_pieces.specs.Pieces.{Top, Pieces, top_at}
 use Rattle.poly_laws.specs.Values.{level}
 use Rattle.division_laws.specs.Polynomials.{constant}
 use Rattle.claim_laws.specs.Identity.{poly_difference, poly_product, HasIdentity}
@@ -17,4 +17,4 @@ pair_of_tops top a = poly_product (constant (level 1).ops a) (poly_difference (t
 pub record IsCertifiedPair (c : Claim) (a : Meaning) (pieces : Pieces) : Type 0 where
   pub multipliers : c.multipliers ≡ a ∷ []
   pub goes_with : HasPieces c pieces
-  pub identity : HasIdentity pieces c (pair_of_tops pieces.top a)
+  pub identity : HasIdentity pieces c (pair_of_tops (top_at pieces) a)
