@@ -11,7 +11,7 @@ use cert_text::{EngineFault, Place, PolyDoc};
 use poly_generic::Zn;
 use ring_laws::{Ring, RingFault};
 use std::alloc::Global;
-use term_faults::LimitName;
+use steps::LimitName;
 
 /// Whether the claim of a document holds: the scales of the term and the carrier are equal, the multiplier isn't 0, and the
 /// difference of Y is the multiplier times the polynomial of the term. The first test that fails is named.

@@ -1,6 +1,6 @@
 //! Why a document isn't read, and why an engine or the checker gives no answer.
 
-use term_faults::LimitName;
+use steps::LimitName;
 use thiserror::Error;
 
 /// Why no document was read from a text.

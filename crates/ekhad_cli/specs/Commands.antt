@@ -12,10 +12,9 @@ use Rattle.cert_checker.specs.declared.verdicts.Reason.{Reason}
 use Rattle.cert_checker.specs.declared.verdicts.Reason.TheVariants.{Shape, Normal, Carrier, Zero, Poles, Equation, Case, Same, Sums}
 use Rattle.grammar.specs.Several.{a_term}
 use Rattle.grammar.specs.Reading.{HasTrees, IsFirstFault, Fault, unexpected_at, unknown_name_at, unclosed_at, empty_input, not_ascii_at, nesting_at, literal_too_large_at}
-use Rattle.term_classes.specs.Refusals as classes
-use Rattle.term_classes.specs.Steps.{IsTooLargeAt}
+use Rattle.steps.specs.Steps.{limit, IsTooLargeAt}
+use Rattle.steps.specs.TermFaults.{TermRefusal, improper}
 use Rattle.term_classes.specs.Walk.{class_of}
-use Rattle.tree_polynomials.specs.Answers.{limit_of}
 use Rattle.ekhad_cli.specs.FirstRun.{IsFirstRunTerm}
 use Rattle.ekhad_cli.specs.Answer.{IsAnswerTo}
 use Rattle.ekhad_cli.specs.Refusals.{IsOutside}
@@ -91,7 +90,7 @@ fault_of NotAscii at = not_ascii_at at
 fault_of Nesting at = nesting_at at
 
 -- the walk over the tree of the text of a term ends with this refusal
-abbrev pub IsRefusedBy : List ℕ → classes.Refusal → Type 0
+abbrev pub IsRefusedBy : List ℕ → TermRefusal → Type 0
 IsRefusedBy text refusal = (tree : Tree) × HasTrees a_term text (tree ∷ []) × ((class_of tree).outcome ≡ Err refusal)
 
 -- an operation of the node at this place isn't in bounds in the walk over the tree of the text
@@ -111,8 +110,8 @@ IsCause command bytes (refusal.Limit limit counted) =
 IsCause Gosper bytes EmptyInput = (length bytes ≤ most_bytes Gosper) × IsFirstFault a_term bytes empty_input
 IsCause Gosper bytes (refusal.Syntax kind at) = (length bytes ≤ most_bytes Gosper) × IsFirstFault a_term bytes (fault_of kind at)
 IsCause Gosper bytes (LiteralTooLarge at) = (length bytes ≤ most_bytes Gosper) × IsFirstFault a_term bytes (literal_too_large_at at)
-IsCause Gosper bytes (Improper reason at) = (length bytes ≤ most_bytes Gosper) × IsRefusedBy bytes (classes.improper reason at)
-IsCause Gosper bytes (TermLimit name counted) = (length bytes ≤ most_bytes Gosper) × IsRefusedBy bytes (classes.limit (limit_of name) counted)
+IsCause Gosper bytes (Improper reason at) = (length bytes ≤ most_bytes Gosper) × IsRefusedBy bytes (improper reason at)
+IsCause Gosper bytes (TermLimit name counted) = (length bytes ≤ most_bytes Gosper) × IsRefusedBy bytes (limit name counted)
 IsCause Gosper bytes (TermTooLarge at) = (length bytes ≤ most_bytes Gosper) × IsTermTooLarge bytes at
 IsCause Gosper bytes Unbuilt = (length bytes ≤ most_bytes Gosper) × IsUnbuilt bytes
 IsCause Check bytes (Line at) = (length bytes ≤ most_bytes Check) × (line : ℕ) × IsFirstBadLine bytes line × (at ≡ carried line)

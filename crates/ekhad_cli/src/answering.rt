@@ -6,7 +6,8 @@ ghost use Rattle.grammar.specs.Reading.{HasTrees};
 ghost use Rattle.grammar.specs.Several.{a_term};
 ghost use Rattle.term_text.specs.Answers.{HasFault};
 ghost use Rattle.term_classes.specs.Walk.{class_of};
-ghost use Rattle.tree_polynomials.specs.Answers.{HasCause};
+ghost use Rattle.steps.specs.Answers.{HasCause};
+ghost use Rattle.steps.specs.TermFaults.{term_cause};
 ghost use Rattle.ekhad_cli.specs.Refusals.{IsInside};
 ghost use Rattle.ekhad_cli.specs.Commands.{most_bytes, IsAnswerText, IsCause};
 
@@ -19,7 +20,7 @@ use crate::words::Command;
 use cert_text::print_poly_doc;
 use ring_laws::RingFault;
 use std::alloc::Global;
-use term_faults::TermFault;
+use steps::TermFault;
 use term_text::{TextFault, read_term};
 use term_walk::classify;
 
@@ -43,7 +44,7 @@ fn refusal_of(fault: TextFault) -> Refusal
 // How a text is refused whose tree has no class.
 fn refusal_of_class(fault: TermFault) -> Refusal
     ensures cause { (text : List ℕ) (tree : Tree) → length text ≤ most_bytes Command.Gosper → HasTrees a_term text (tree ∷ [])
-        → HasCause (class_of tree) fault → IsCause Command.Gosper text result }
+        → HasCause (class_of tree) (term_cause fault) → IsCause Command.Gosper text result }
     ensures inside { IsInside result }
 {
     match fault {

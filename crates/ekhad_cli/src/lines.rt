@@ -10,7 +10,7 @@ use crate::status::Status;
 use ek_io::{Sink, write_all_counted};
 use std::alloc::{AllocError, Global};
 use std::borrow::CowStr;
-use term_faults::LimitName;
+use steps::LimitName;
 
 // The name of a limit, as it is said.
 fn name_of_limit(limit: RunLimit) -> &'static str

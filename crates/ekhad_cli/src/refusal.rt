@@ -4,7 +4,7 @@ ghost use Rattle.std.specs.Prelude.{◌≡◌};
 ghost use Rattle.ekhad_cli.specs.Refusals.{status_of};
 
 use crate::status::Status;
-use term_faults::LimitName;
+use steps::LimitName;
 
 /// What is counted, where a limit is passed.
 #[derive(Clone, Copy, Debug, PartialEq, Eq, Drop)]

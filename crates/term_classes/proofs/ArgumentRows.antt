@@ -11,16 +11,17 @@ use Rattle.hypergeometric.specs.Tree.{Tree}
 use Rattle.hypergeometric.specs.TreePolynomial.{tree_polynomial}
 use Rattle.hypergeometric.specs.TreeValue.{tree_value, factorial_power, at_whole}
 use Rattle.hypergeometric.proofs.PlainTerms.{difference_of_wholes}
-use Rattle.term_classes.specs.Refusals.{improper}
+use Rattle.steps.proofs.StepLaws.{then_gave, same_Ok, not_refused}
+use Rattle.steps.specs.Operations.{of_number}
+use Rattle.steps.specs.Steps.{makes, ◌then◌}
+use Rattle.steps.specs.TermFaults.{improper, TermSteps}
 use Rattle.term_classes.specs.Divisors.{lowest_terms, raised_fraction}
-use Rattle.term_classes.specs.Steps.{Steps, of_number, makes, ◌then◌}
 use Rattle.term_classes.specs.Forms.{linear_form_of, form_difference, difference_size, limited_form}
 use Rattle.term_classes.specs.Sought.{polynomial_sought}
 use Rattle.term_classes.specs.Walk.{with_n_base, with_k_base, with_scale, place_of, with_factorial, form_or_refused, argument_sought, not_negative, times_exponential, times_binomial}
 use Rattle.term_classes.proofs.SameValues.{◌≅◌, same, same_itself, same_chain, same_turned, same_products, same_sums, same_negatives}
 use Rattle.term_classes.proofs.FractionPowers.{product_one}
 use Rattle.term_classes.proofs.NonzeroPowers.{power_at_sum}
-use Rattle.term_classes.proofs.StepLaws.{then_gave, same_Ok, not_refused}
 use Rattle.term_classes.proofs.PolynomialValues.{tree_has}
 use Rattle.term_classes.proofs.SoughtPolynomials.{sought_is}
 use Rattle.term_classes.proofs.TermProducts.{IsTimes, times_both, times_same}
@@ -93,21 +94,21 @@ difference_value upper lower l m e q p =
 
 
 -- steps whose value isn't used
-pub skipped : {A B : Type 0} (s : Steps A) (t : Steps B) (y : B) → (s then (λ x. t)).outcome ≡ Ok y → t.outcome ≡ Ok y
+pub skipped : {A B : Type 0} (s : TermSteps A) (t : TermSteps B) (y : B) → (s then (λ x. t)).outcome ≡ Ok y → t.outcome ≡ Ok y
 skipped s t y e = (then_gave s (λ x. t) y e).second
 
 -- what a binomial coefficient multiplies by, once its arguments are found
-abbrev pub three_factorials : LinearForm → LinearForm → LinearForm → ℤ → ProperTerm → Steps ProperTerm
+abbrev pub three_factorials : LinearForm → LinearForm → LinearForm → ℤ → ProperTerm → TermSteps ProperTerm
 three_factorials l m d w f = with_factorial l w f then (λ g. with_factorial m (neg_ℤ w) g then (λ h. with_factorial d (neg_ℤ w) h))
 
-abbrev pub limits_tested : LinearForm → LinearForm → LinearForm → ℤ → ProperTerm → Steps ProperTerm
+abbrev pub limits_tested : LinearForm → LinearForm → LinearForm → ℤ → ProperTerm → TermSteps ProperTerm
 limits_tested l m d w f = limited_form l then (λ l2. limited_form m then (λ m2. limited_form d then (λ d2. three_factorials l m d w f)))
 
-abbrev pub difference_made : ℕ → LinearForm → LinearForm → ℤ → ProperTerm → Steps ProperTerm
+abbrev pub difference_made : ℕ → LinearForm → LinearForm → ℤ → ProperTerm → TermSteps ProperTerm
 difference_made at l m w f = makes at (of_number (difference_size l m)) (form_difference l m) then
     (λ d. not_negative at d then (λ d1. limits_tested l m d w f))
 
-abbrev pub arguments_tested : ℕ → Tree → Tree → LinearForm → LinearForm → ℤ → ProperTerm → Steps ProperTerm
+abbrev pub arguments_tested : ℕ → Tree → Tree → LinearForm → LinearForm → ℤ → ProperTerm → TermSteps ProperTerm
 arguments_tested at upper lower l m w f =
     not_negative (place_of upper) l then (λ l1. not_negative (place_of lower) m then (λ m1. difference_made at l m w f))
 

@@ -10,12 +10,12 @@ use Rattle.hypergeometric.specs.TreePolynomial.{in_n_and_k}
 use Rattle.hypergeometric.specs.TreeValue.{tree_value, term_value}
 use Rattle.hypergeometric.proofs.FractionLaws.{one_not_zero, equal_chain}
 use Rattle.hypergeometric.proofs.PlainTerms.{plain_value}
-use Rattle.term_classes.specs.Steps.{gives, ◌then◌}
+use Rattle.steps.proofs.StepLaws.{then_gave, same_Ok}
+use Rattle.steps.specs.Steps.{gives, ◌then◌}
 use Rattle.term_classes.specs.Walk.{unit_term, walk, cancelled, class_of, class_of_quotient}
 use Rattle.term_classes.specs.ClassValues.{HasValue, quotient_value}
 use Rattle.term_classes.proofs.SameValues.{◌≅◌, same, same_chain, same_defined, same_equal}
 use Rattle.term_classes.proofs.FractionPowers.{one_product}
-use Rattle.term_classes.proofs.StepLaws.{then_gave, same_Ok}
 use Rattle.term_classes.proofs.TermProducts.{IsTimes, times_both}
 use Rattle.term_classes.proofs.WalkValues.{walk_multiplies, minus_one_not_zero}
 use Rattle.term_classes.proofs.WalkKeeps.{walk_keeps}

@@ -17,7 +17,10 @@ use Rattle.hypergeometric.specs.TreePolynomial.{constant_in_n, constant_in_k}
 use Rattle.hypergeometric.specs.TreeValue.{tree_value}
 use Rattle.hypergeometric.proofs.PlainTerms.{whole_power_of_one}
 use Rattle.hypergeometric.proofs.Definedness.{natural_power_defined}
-use Rattle.term_classes.specs.Steps.{Counterpart, of_fraction, gives, makes, ◌then◌}
+use Rattle.steps.proofs.StepLaws.{same_Ok}
+use Rattle.steps.specs.Operations.{Counterpart, of_fraction}
+use Rattle.steps.specs.TermFaults.{Improper}
+use Rattle.steps.specs.Steps.{gives, makes, ◌then◌}
 use Rattle.term_classes.specs.Divisors.{lowest_terms, raised_fraction, size_of_top, size_of_bottom}
 use Rattle.term_classes.specs.Forms.{is_zero}
 use Rattle.term_classes.specs.Sought.{power_made, negative_of}
@@ -25,7 +28,6 @@ use Rattle.term_classes.proofs.SameValues.{◌≅◌, same, same_itself, same_ch
 use Rattle.term_classes.proofs.FractionPowers.{fraction_same, whole_power_of_product, natural_then_whole}
 use Rattle.term_classes.proofs.NonzeroPowers.{power_then_power}
 use Rattle.term_classes.proofs.LowestTerms.{lowest_same, lowest_bottom_zero, raised_same, raised_natural, raised_nonzero}
-use Rattle.term_classes.proofs.StepLaws.{same_Ok}
 use Rattle.term_classes.proofs.PolynomialParts.{power_value}
 
 -- a polynomial that is a constant has its value at each point
@@ -72,7 +74,7 @@ negated_constant t (Some g) f e h = subst (λ f. IsConstant f (λ w p. fraction_
     })
 
 pub unless_given : (b : Bool) (counterpart : Counterpart) (at : ℕ) (r g : Fraction)
-    → (if b then gives None else makes at counterpart (Some r)).outcome ≡ Ok (Some g) → (b ≡ false) × (r ≡ g)
+    → (if b then gives {P = ℕ} {R = Improper} None else makes at counterpart (Some r)).outcome ≡ Ok (Some g) → (b ≡ false) × (r ≡ g)
 unless_given true counterpart at r g e = absurd (none-some g (same_Ok None (Some g) e))
 unless_given false counterpart at r g e = (refl, same_Some r g (same_Ok (Some r) (Some g) e))
 

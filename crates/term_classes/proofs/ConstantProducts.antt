@@ -10,16 +10,19 @@ use Rattle.hypergeometric.specs.Tree.{Tree, Node, Parts, part}
 use Rattle.hypergeometric.specs.TreePolynomial.{constant_in_k, node_polynomial}
 use Rattle.hypergeometric.specs.TreeValue.{tree_value, node_value, product_value, part_power}
 use Rattle.hypergeometric.proofs.FractionLaws.{one_not_zero, product_not_zero}
-use Rattle.term_classes.specs.Refusals.{exponent_limit}
-use Rattle.term_classes.specs.Steps.{Steps, of_fraction, gives, within_limit, ◌then◌}
+use Rattle.steps.proofs.StepLaws.{then_gave, same_Ok}
+use Rattle.steps.specs.Found.{where_some, in_front}
+use Rattle.steps.specs.Operations.{of_fraction}
+use Rattle.steps.specs.Steps.{gives, within_limit, ◌then◌}
+use Rattle.steps.specs.TermFaults.{TermSteps}
+use Rattle.steps.specs.declared.limits.LimitName.TheVariants.{Exponent}
 use Rattle.term_classes.specs.Divisors.{lowest_terms}
 use Rattle.term_classes.specs.Forms.{is_zero}
-use Rattle.term_classes.specs.Sought.{where_some, in_front, FractionFactor, divides_by_zero, factor_fraction, product_of_fractions, product_made, power_made, whole_fraction, constant_sought, node_constant_sought, constants_sought, top_sizes, bottom_sizes}
+use Rattle.term_classes.specs.Sought.{FractionFactor, divides_by_zero, factor_fraction, product_of_fractions, product_made, power_made, whole_fraction, constant_sought, node_constant_sought, constants_sought, top_sizes, bottom_sizes}
 use Rattle.term_classes.proofs.SameValues.{◌≅◌, same, same_chain, same_turned, same_products, same_whole_powers}
 use Rattle.term_classes.proofs.FractionPowers.{whole_power_of_product}
 use Rattle.term_classes.proofs.NonzeroPowers.{inverse_is_turned_over, negated_exponent}
 use Rattle.term_classes.proofs.LowestTerms.{lowest_same, lowest_bottom_zero}
-use Rattle.term_classes.proofs.StepLaws.{then_gave, same_Ok}
 use Rattle.term_classes.proofs.PolynomialValues.{node_has}
 use Rattle.term_classes.proofs.PolynomialParts.{power_value}
 use Rattle.term_classes.proofs.ConstantPowers.{IsConstant, constant_value, power_made_has, unless_given, not_zero}
@@ -93,12 +96,12 @@ some_power at base c None f other found e h = absurd (none-some f (same_Ok None 
 some_power at base c (Some g) f other found e h = power_made_has base g (h g found) at c f other e
 
 pub power_found : (at : ℕ) (base : Tree) (c : Option ℤ) (f : Fraction) (other : ℤ → Point → Fraction)
-    → (where_some c (λ c. within_limit exponent_limit 12 (unsigned_abs c) c then (λ c1.
+    → (where_some c (λ c. within_limit Exponent (unsigned_abs c) c then (λ c1.
     constant_sought base then (λ f. where_some f (power_made at c))))).outcome ≡ Ok (Some f) → FoundIn base
     → IsConstant f (λ w p. power_value base c w p (other w p))
 power_found at base None f other e h = absurd (none-some f (same_Ok None (Some f) e))
 power_found at base (Some c) f other e h =
-    let g = then_gave (within_limit exponent_limit 12 (unsigned_abs c) c) (λ c1. constant_sought base then (λ f. where_some f (power_made at c)))
+    let g = then_gave (within_limit Exponent (unsigned_abs c) c) (λ c1. constant_sought base then (λ f. where_some f (power_made at c)))
     (Some f) e in
     let b = then_gave (constant_sought base) (λ f. where_some f (power_made at c)) (Some f) g.second in
     some_power at base c b.value f other b.first b.second h
@@ -113,7 +116,7 @@ whole_given q (Some z) f e constant value h = subst (λ f. IsConstant f value) (
 
 -- by its polynomial, or else by its other cases
 pub constant_or : (at : ℕ) (node : Node) (p : Option Meaning) (f : Fraction) → node_polynomial node ≡ p
-    → (elim p as (λ _. Steps (Option Fraction)) [
+    → (elim p as (λ _. TermSteps (Option Fraction)) [
       | Some q ↦ gives (whole_fraction (constant_in_k (items q)))
       | None ↦ node_constant_sought at node
     ]).outcome ≡ Ok (Some f)

@@ -10,11 +10,13 @@ use Rattle.hypergeometric.specs.TreePolynomial.{constant_in_k, constant_of}
 use Rattle.hypergeometric.specs.TreeValue.{tree_value, node_value, product_value, at_whole, defined_power}
 use Rattle.hypergeometric.proofs.FractionLaws.{one_not_zero}
 use Rattle.hypergeometric.proofs.PlainTerms.{whole_power_of_one}
-use Rattle.term_classes.specs.Refusals.{exponent_limit}
-use Rattle.term_classes.specs.Steps.{Steps, gives, within_limit, ◌then◌}
-use Rattle.term_classes.specs.Sought.{where_some, in_front, FractionFactor, divides_by_zero, product_of_fractions, product_made, power_made, whole_fraction, negative_of, polynomial_sought, node_polynomial_sought, constant_sought, node_constant_sought, constants_sought}
+use Rattle.steps.proofs.StepLaws.{then_gave, same_Ok}
+use Rattle.steps.specs.Found.{where_some, in_front}
+use Rattle.steps.specs.Steps.{gives, within_limit, ◌then◌}
+use Rattle.steps.specs.TermFaults.{TermSteps}
+use Rattle.steps.specs.declared.limits.LimitName.TheVariants.{Exponent}
+use Rattle.term_classes.specs.Sought.{FractionFactor, divides_by_zero, product_of_fractions, product_made, power_made, whole_fraction, negative_of, polynomial_sought, node_polynomial_sought, constant_sought, node_constant_sought, constants_sought}
 use Rattle.term_classes.proofs.SameValues.{same}
-use Rattle.term_classes.proofs.StepLaws.{then_gave, same_Ok}
 use Rattle.term_classes.proofs.PolynomialParts.{power_value}
 use Rattle.term_classes.proofs.SoughtPolynomials.{sought_is, node_sought_is}
 use Rattle.term_classes.proofs.ConstantPowers.{IsConstant, negated_constant}
@@ -23,7 +25,7 @@ use Rattle.term_classes.proofs.ConstantProducts.{one_factor_has, product_found, 
 mutual
   pub constant_has : (t : Tree) (f : Fraction) → (constant_sought t).outcome ≡ Ok (Some f) → IsConstant f (tree_value t)
   constant_has (tree at node) f e =
-      let g = then_gave (node_polynomial_sought at node) (λ given. elim given as (λ _. Steps (Option Fraction)) [
+      let g = then_gave (node_polynomial_sought at node) (λ given. elim given as (λ _. TermSteps (Option Fraction)) [
         | Some q ↦ gives (whole_fraction (constant_in_k (items q)))
         | None ↦ node_constant_sought at node
       ]) (Some f) e in
@@ -44,7 +46,7 @@ mutual
       let g = then_gave (constants_sought parts) (product_made at) (Some f) e in
       product_found at parts g.value f g.first g.second (constants_have parts)
   node_constant_has at (power_of base e) f h =
-      let g = then_gave (polynomial_sought e) (λ given. where_some (constant_of given) (λ c. within_limit exponent_limit 12 (unsigned_abs c) c then (λ c1.
+      let g = then_gave (polynomial_sought e) (λ given. where_some (constant_of given) (λ c. within_limit Exponent (unsigned_abs c) c then (λ c1.
       constant_sought base then (λ f. where_some f (power_made at c))))) (Some f) h in
       let other : ℤ → Point → Fraction = λ w p. at_whole (λ z. defined_power (tree_value base (pos 1) p) (w *ℤ z)) (tree_value e (pos 1) p) in
       subst (λ c. IsConstant f (λ w p. power_value base c w p (other w p))) (sym (ap constant_of (sought_is e g.value g.first)))

@@ -9,13 +9,14 @@ use Rattle.hypergeometric.specs.ProperTerm.{ProperTerm, IsNonzero}
 use Rattle.hypergeometric.specs.TermFacts.{IsWithinLimits}
 use Rattle.hypergeometric.specs.Tree.{Tree, Node}
 use Rattle.hypergeometric.specs.TreePolynomial.{in_n_and_k, poly_power, constant_in_k}
-use Rattle.term_classes.specs.Refusals.{improper, exponent_limit}
-use Rattle.term_classes.specs.Steps.{Steps, gives, refuses, within_limit, ◌then◌}
+use Rattle.steps.proofs.StepLaws.{then_gave, same_Ok, not_refused}
+use Rattle.steps.specs.Steps.{gives, refuses, within_limit, ◌then◌}
+use Rattle.steps.specs.TermFaults.{improper, TermSteps}
+use Rattle.steps.specs.declared.limits.LimitName.TheVariants.{Exponent}
 use Rattle.term_classes.specs.Divisors.{lowest_terms, raised_fraction}
 use Rattle.term_classes.specs.Forms.{is_zero, linear_form_of, form_difference, content_of_form, primitive_form, limited_form, limited_exponent}
 use Rattle.term_classes.specs.Sought.{node_polynomial_sought, constant_sought}
 use Rattle.term_classes.specs.Walk.{with_poly, with_scale, with_n_base, with_k_base, place_of, times_power, few_factors, with_factorial, with_denominator, times_number, times_polynomial, times_sought, form_or_refused, base_or_refused, argument_sought, not_negative, times_exponential, times_binomial, walk}
-use Rattle.term_classes.proofs.StepLaws.{then_gave, same_Ok, not_refused}
 use Rattle.term_classes.proofs.SoughtPolynomials.{node_sought_is}
 use Rattle.term_classes.proofs.ConstantPowers.{not_zero}
 use Rattle.term_classes.proofs.ConstantValues.{constant_has}
@@ -63,7 +64,7 @@ module _ (P : ProperTerm → Type 0) (rows : RowsKeep P) where
       subst P (same_Ok (with_poly (in_n_and_k.product s.poly (poly_power q w)) s) s' e) (rows.poly s q w p varying)
   polynomial_keeps at q (negsuc w) s s' varying p e = by (linear_form_of (Some q)) refl e
     where
-      by : (o : Option LinearForm) → linear_form_of (Some q) ≡ o → (elim o as (λ _. Steps ProperTerm) [
+      by : (o : Option LinearForm) → linear_form_of (Some q) ≡ o → (elim o as (λ _. TermSteps ProperTerm) [
         | None ↦ refuses (improper 3 at)
         | Some l ↦ limited_form l then (λ l1. with_denominator at l (suc w) s)
       ]).outcome ≡ Ok s' → P s'
@@ -77,7 +78,7 @@ module _ (P : ProperTerm → Type 0) (rows : RowsKeep P) where
   sought_keeps at w s s' None belongs p e = absurd (not_refused (improper 6 at) s' e)
   sought_keeps at w s s' (Some q) belongs p e = by (constant_in_k (items q)) refl e
     where
-      by : (c : Option ℤ) → constant_in_k (items q) ≡ c → (elim c as (λ _. Steps ProperTerm) [
+      by : (c : Option ℤ) → constant_in_k (items q) ≡ c → (elim c as (λ _. TermSteps ProperTerm) [
         | Some z ↦ times_number at z w s
         | None ↦ times_polynomial at q w s
       ]).outcome ≡ Ok s' → P s'
@@ -138,13 +139,13 @@ module _ (P : ProperTerm → Type 0) (rows : RowsKeep P) where
       limits_keep l m (form_difference l m) w s s' n p g
 
   pub power_keeps : (at : ℕ) (base e : Tree) (o : Option LinearForm) (c : Option ℤ) (w : ℤ) (s s' : ProperTerm) → w ≢ pos 0 → P s
-      → (elim c as (λ _. Steps ProperTerm) [
-        | Some c ↦ within_limit exponent_limit 12 (unsigned_abs (w *ℤ c)) c then (λ c1. if is_zero c then gives s else walk base (w *ℤ c) s)
+      → (elim c as (λ _. TermSteps ProperTerm) [
+        | Some c ↦ within_limit Exponent (unsigned_abs (w *ℤ c)) c then (λ c1. if is_zero c then gives s else walk base (w *ℤ c) s)
         | None ↦ exponential_walk at base e o w s
       ]).outcome ≡ Ok s' → ((v : ℤ) → v ≢ pos 0 → (walk base v s).outcome ≡ Ok s' → P s') → P s'
   power_keeps at base e o None w s s' n p given rest = exponential_keeps at base e o w s s' p given
   power_keeps at base e o (Some c) w s s' n p given rest =
-      by (is_zero c) refl (skipped (within_limit exponent_limit 12 (unsigned_abs (w *ℤ c)) c) (if is_zero c then gives s else walk base (w *ℤ c) s)
+      by (is_zero c) refl (skipped (within_limit Exponent (unsigned_abs (w *ℤ c)) c) (if is_zero c then gives s else walk base (w *ℤ c) s)
       s' given)
     where
       by : (b : Bool) → is_zero c ≡ b → (if b then gives s else walk base (w *ℤ c) s).outcome ≡ Ok s' → P s'

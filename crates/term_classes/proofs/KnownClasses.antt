@@ -7,7 +7,9 @@ use Rattle.hypergeometric.specs.ProperTerm.{ProperTerm}
 use Rattle.hypergeometric.specs.Tree.{Tree, tree, Node, literal, variable_n, variable_k, sum_of, product_of, power_of, factorial_of, binomial_of, Parts, no_parts, part}
 use Rattle.hypergeometric.specs.TreePolynomial.{poly_k}
 use Rattle.lin_form.specs.FactorLists.{factor_with}
-use Rattle.term_classes.specs.Refusals.{Refusal, improper, limit, exponent_limit, factors_limit, slope_limit, offset_limit}
+use Rattle.steps.specs.Steps.{limit}
+use Rattle.steps.specs.TermFaults.{TermRefusal, improper}
+use Rattle.steps.specs.declared.limits.LimitName.TheVariants.{Exponent, Factors, Slope, Offset}
 use Rattle.term_classes.specs.Divisors.{greatest_common_divisor, lowest_terms}
 use Rattle.term_classes.specs.Forms.{with_numbers, content_of_form, primitive_form}
 use Rattle.term_classes.specs.Walk.{unit_term, with_poly, with_scale, with_n_base, with_k_base, with_lists, class_of, class_of_quotient}
@@ -27,7 +29,7 @@ both l turned m = part false l (part turned m no_parts)
 abbrev fraction : ℤ → ℤ → Fraction
 fraction a b = record { top = a; bottom = b }
 
-abbrev class : Tree → Result ProperTerm Refusal
+abbrev class : Tree → Result ProperTerm TermRefusal
 class t = (class_of t).outcome
 
 abbrev form_k : LinearForm
@@ -52,7 +54,7 @@ power_of_n : class (tree 1 (power_of (n_at 0) (k_at 2))) ≡ Err (improper 4 1)
 power_of_n = refl
 
 -- k^13
-high_power : class (tree 1 (power_of (k_at 0) (number_at 2 13))) ≡ Err (limit exponent_limit 13)
+high_power : class (tree 1 (power_of (k_at 0) (number_at 2 13))) ≡ Err (limit Exponent 13)
 high_power = refl
 
 -- (k/0)^0 and 0^0 are the term 1
@@ -79,16 +81,16 @@ three second third l m r = product_of (part false l (part second m (part third r
 
 -- (k^13*2/3+1) and (2/3*k^13+1): the parts are sought in the order of the text
 order_of_parts : (class (tree 9 (sum_of (both (tree 5 (three false true (k_to_13 1 2 3) (number_at 6 2) (number_at 8 3))) false (number_at 10 1))))
-    ≡ Err (limit exponent_limit 13))
+    ≡ Err (limit Exponent 13))
     × (class (tree 9 (sum_of (both (tree 2 (three true false (number_at 1 2) (number_at 3 3) (k_to_13 5 6 7))) false (number_at 10 1))))
     ≡ Err (improper 6 9))
 order_of_parts = (refl, refl)
 
 -- n^(k^13), (3/0*k^13)^k and (10^30)!: an exponent is sought before all else, and all parts of a product before the test of 0
-limits_first : (class (tree 1 (power_of (n_at 0) (k_to_13 3 4 5))) ≡ Err (limit exponent_limit 13))
+limits_first : (class (tree 1 (power_of (n_at 0) (k_to_13 3 4 5))) ≡ Err (limit Exponent 13))
     × (class (tree 11 (power_of (tree 2 (three true false (number_at 1 3) (number_at 3 0) (k_to_13 5 6 7))) (k_at 12)))
-    ≡ Err (limit exponent_limit 13))
-    × (class (tree 7 (factorial_of (tree 3 (power_of (number_at 1 10) (number_at 4 30))))) ≡ Err (limit exponent_limit 30))
+    ≡ Err (limit Exponent 13))
+    × (class (tree 7 (factorial_of (tree 3 (power_of (number_at 1 10) (number_at 4 30))))) ≡ Err (limit Exponent 30))
 limits_first = (refl, refl, refl)
 
 abbrev factorial_to_12 : ℕ → Tree → Tree
@@ -97,7 +99,7 @@ factorial_to_12 at t = tree at (power_of (tree at (factorial_of t)) (number_at a
 -- k!^12*n!^12/(k+1)
 many_factors : class (tree 5 (three false true (factorial_to_12 1 (k_at 0)) (factorial_to_12 7 (n_at 6))
     (tree 14 (sum_of (both (k_at 13) false (number_at 15 1))))))
-    ≡ Err (limit factors_limit 25)
+    ≡ Err (limit Factors 25)
 many_factors = refl
 
 abbrev half_of_one_over : LinearForm → ProperTerm
@@ -139,6 +141,6 @@ binomial_refused : class (tree 0 (binomial_of (number_at 9 2) (number_at 11 3)))
 binomial_refused = refl
 
 -- (9*k)! and (k+1000001)!
-limits_of_arguments : (class (tree 5 (factorial_of (tree 2 (product_of (both (number_at 1 9) false (k_at 3)))))) ≡ Err (limit slope_limit 9))
-    × (class (tree 11 (factorial_of (tree 2 (sum_of (both (k_at 1) false (number_at 3 1000001)))))) ≡ Err (limit offset_limit 1000001))
+limits_of_arguments : (class (tree 5 (factorial_of (tree 2 (product_of (both (number_at 1 9) false (k_at 3)))))) ≡ Err (limit Slope 9))
+    × (class (tree 11 (factorial_of (tree 2 (sum_of (both (k_at 1) false (number_at 3 1000001)))))) ≡ Err (limit Offset 1000001))
 limits_of_arguments = (refl, refl)

@@ -3,8 +3,10 @@ use Rattle.std.proofs.Common.{arith}
 use Rattle.std.specs.Prelude.{◌≡◌, ℕ, pos, false, [], ◌∷◌, Ok, Err, refl}
 use Rattle.ring_laws.specs.Meaning.{Meaning, number, listed}
 use Rattle.hypergeometric.specs.Tree.{Tree, tree, literal, variable_n, variable_k, sum_of, product_of, power_of, factorial_of, no_parts, part}
-use Rattle.term_classes.specs.Refusals.{improper, limit, order_limit}
-use Rattle.term_classes.specs.Steps.{of_polynomial, IsTooLargeAt}
+use Rattle.steps.specs.Operations.{of_polynomial}
+use Rattle.steps.specs.Steps.{limit, IsTooLargeAt}
+use Rattle.steps.specs.TermFaults.{improper}
+use Rattle.steps.specs.declared.limits.LimitName.TheVariants.{Order}
 use Rattle.term_classes.specs.Walk.{class_of}
 use Rattle.term_classes.specs.Recurrence.{recurrence_sought}
 
@@ -35,7 +37,7 @@ refused : ((recurrence_sought (n_at 0 ∷ tree 4 (factorial_of (k_at 3)) ∷ [])
 refused = (refl, refl, refl, refl, refl)
 
 -- eight trees
-too_many : (recurrence_sought (k_at 0 ∷ k_at 2 ∷ k_at 4 ∷ k_at 6 ∷ k_at 8 ∷ k_at 10 ∷ k_at 12 ∷ k_at 14 ∷ [])).outcome ≡ Err (limit order_limit 7)
+too_many : (recurrence_sought (k_at 0 ∷ k_at 2 ∷ k_at 4 ∷ k_at 6 ∷ k_at 8 ∷ k_at 10 ∷ k_at 12 ∷ k_at 14 ∷ [])).outcome ≡ Err (limit Order 7)
 too_many = refl
 
 abbrev ten_to_12 : ℕ → Tree

@@ -6,7 +6,6 @@ pub mod LowestTerms
 pub mod PolynomialParts
 pub mod PolynomialValues
 pub mod PassingPolynomials
-pub mod StepLaws
 pub mod SoughtPolynomials
 pub mod ConstantPowers
 pub mod ConstantProducts

@@ -12,15 +12,18 @@ use Rattle.ring_laws.specs.Meaning.{Meaning, items}
 use Rattle.hypergeometric.specs.Fraction.{Fraction, IsDefined, of_whole, fraction_negative}
 use Rattle.hypergeometric.specs.Tree.{Tree, tree, Node, literal, variable_n, variable_k, sum_of, product_of, power_of, factorial_of, binomial_of, no_parts, part}
 use Rattle.hypergeometric.specs.TreePolynomial.{constant_in_k, constant_of}
-use Rattle.term_classes.specs.Refusals.{exponent_limit}
-use Rattle.term_classes.specs.Steps.{Steps, of_fraction, gives, within_limit, ◌then◌}
+use Rattle.steps.proofs.StepLaws.{then_gave, same_Ok}
+use Rattle.steps.specs.Found.{where_some}
+use Rattle.steps.specs.Operations.{of_fraction}
+use Rattle.steps.specs.Steps.{gives, within_limit, ◌then◌}
+use Rattle.steps.specs.TermFaults.{TermSteps}
+use Rattle.steps.specs.declared.limits.LimitName.TheVariants.{Exponent}
 use Rattle.term_classes.specs.Divisors.{turned_where, lowest_terms, raised_fraction, size_of_top, size_of_bottom}
 use Rattle.term_classes.specs.Forms.{is_zero}
-use Rattle.term_classes.specs.Sought.{where_some, FractionFactor, divides_by_zero, product_of_fractions, product_made, power_made, whole_fraction, negative_of, top_sizes, bottom_sizes, polynomial_sought, node_polynomial_sought, constant_sought, node_constant_sought, constants_sought}
+use Rattle.term_classes.specs.Sought.{FractionFactor, divides_by_zero, product_of_fractions, product_made, power_made, whole_fraction, negative_of, top_sizes, bottom_sizes, polynomial_sought, node_polynomial_sought, constant_sought, node_constant_sought, constants_sought}
 use Rattle.term_classes.proofs.LowestTerms.{divisor_of, is_turned, turned_size}
 use Rattle.term_classes.proofs.ConstantValues.{constant_has}
 use Rattle.term_classes.proofs.ReducedFractions.{HasLowestTerms, lowest_has_terms}
-use Rattle.term_classes.proofs.StepLaws.{then_gave, same_Ok}
 use Rattle.term_classes.proofs.ConstantPowers.{unless_given}
 
 whole_terms : (z : ℤ) → HasLowestTerms (of_whole z)
@@ -70,11 +73,11 @@ some_power_lowered at c None f e = absurd (none-some f (same_Ok None (Some f) e)
 some_power_lowered at c (Some g) f e = power_lowered at c g f e
 
 exponent_lowered : (at : ℕ) (base : Tree) (c : Option ℤ) (f : Fraction)
-    → (where_some c (λ c. within_limit exponent_limit 12 (unsigned_abs c) c then (λ c1.
+    → (where_some c (λ c. within_limit Exponent (unsigned_abs c) c then (λ c1.
     constant_sought base then (λ f. where_some f (power_made at c))))).outcome ≡ Ok (Some f) → IsLowered f
 exponent_lowered at base None f e = absurd (none-some f (same_Ok None (Some f) e))
 exponent_lowered at base (Some c) f e =
-    let g = then_gave (within_limit exponent_limit 12 (unsigned_abs c) c) (λ c1. constant_sought base then (λ f. where_some f (power_made at c)))
+    let g = then_gave (within_limit Exponent (unsigned_abs c) c) (λ c1. constant_sought base then (λ f. where_some f (power_made at c)))
     (Some f) e in
     let b = then_gave (constant_sought base) (λ f. where_some f (power_made at c)) (Some f) g.second in
     some_power_lowered at c b.value f b.second
@@ -88,7 +91,7 @@ negated_terms None f e h = absurd (none-some f e)
 negated_terms (Some g) f e h = subst HasLowestTerms (same_Some (fraction_negative g) f e) (negative_terms g (h g refl))
 
 polynomial_or : (at : ℕ) (node : Node) (p : Option Meaning) (f : Fraction)
-    → (elim p as (λ _. Steps (Option Fraction)) [
+    → (elim p as (λ _. TermSteps (Option Fraction)) [
       | Some q ↦ gives (whole_fraction (constant_in_k (items q)))
       | None ↦ node_constant_sought at node
     ]).outcome ≡ Ok (Some f)
@@ -100,7 +103,7 @@ mutual
   -- the constant of a tree is in lowest terms
   pub constant_terms : (t : Tree) (f : Fraction) → (constant_sought t).outcome ≡ Ok (Some f) → HasLowestTerms f
   constant_terms (tree at node) f e =
-      let g = then_gave (node_polynomial_sought at node) (λ p. elim p as (λ _. Steps (Option Fraction)) [
+      let g = then_gave (node_polynomial_sought at node) (λ p. elim p as (λ _. TermSteps (Option Fraction)) [
         | Some q ↦ gives (whole_fraction (constant_in_k (items q)))
         | None ↦ node_constant_sought at node
       ]) (Some f) e in
@@ -121,7 +124,7 @@ mutual
       let g = then_gave (constants_sought parts) (product_made at) (Some f) e in
       lowered_terms f (product_lowered at g.value f g.second) d
   node_terms at (power_of base e) f d h =
-      let g = then_gave (polynomial_sought e) (λ p. where_some (constant_of p) (λ c. within_limit exponent_limit 12 (unsigned_abs c) c then (λ c1.
+      let g = then_gave (polynomial_sought e) (λ p. where_some (constant_of p) (λ c. within_limit Exponent (unsigned_abs c) c then (λ c1.
       constant_sought base then (λ f. where_some f (power_made at c))))) (Some f) h in
       lowered_terms f (exponent_lowered at base (constant_of g.value) f g.second) d
   node_terms at (factorial_of t) f d e = absurd (none-some f (same_Ok None (Some f) e))

@@ -13,11 +13,11 @@ use Rattle.hypergeometric.specs.TermFacts.{IsWithinLimits, IsProper, IsPlain, to
 use Rattle.hypergeometric.specs.Tree.{Tree}
 use Rattle.hypergeometric.proofs.FractionLaws.{one_not_zero}
 use Rattle.lin_form.specs.FactorLists.{power_of}
-use Rattle.term_classes.specs.Steps.{gives, ◌then◌}
+use Rattle.steps.proofs.StepLaws.{then_gave, same_Ok}
+use Rattle.steps.specs.Steps.{gives, ◌then◌}
 use Rattle.term_classes.specs.Walk.{unit_term, in_both, without, cancelled, walk, class_of, class_of_quotient}
 use Rattle.term_classes.specs.ClassBounds.{IsTermInBounds}
 use Rattle.term_classes.proofs.PassingPolynomials.{unit_belongs, unit_not_nought}
-use Rattle.term_classes.proofs.StepLaws.{then_gave, same_Ok}
 use Rattle.term_classes.proofs.SharedForms.{own_powers, both_forms, both_distinct, both_in_first, both_in_second, both_below_first, both_below_second, without_forms, without_distinct}
 use Rattle.term_classes.proofs.SharedTotals.{total_parts}
 use Rattle.term_classes.proofs.CancelledValues.{at_most_own}

@@ -11,12 +11,12 @@ use Rattle.hypergeometric.specs.TermFacts.{IsWithinLimits, total_power}
 use Rattle.hypergeometric.specs.TreePolynomial.{in_n_and_k, poly_power}
 use Rattle.hypergeometric.specs.TreeValue.{part_power}
 use Rattle.lin_form.specs.FactorLists as lists
-use Rattle.term_classes.specs.Refusals.{slope_limit, offset_limit, factors_limit}
-use Rattle.term_classes.specs.Steps.{within_limit, ◌then◌}
+use Rattle.steps.proofs.StepLaws.{then_gave, limit_gave}
+use Rattle.steps.specs.Steps.{within_limit, ◌then◌}
+use Rattle.steps.specs.declared.limits.LimitName.TheVariants.{Slope, Offset, Factors}
 use Rattle.term_classes.specs.Divisors.{lowest_terms, raised_fraction}
 use Rattle.term_classes.specs.Forms.{linear_form_of, primitive_form, limited_form}
 use Rattle.term_classes.specs.Walk.{with_poly, with_scale, with_n_base, with_k_base, with_lists, few_factors}
-use Rattle.term_classes.proofs.StepLaws.{then_gave, limit_gave}
 use Rattle.term_classes.proofs.VaryingForms.{IsVarying}
 
 abbrev pub IsFew : ProperTerm → Type 0
@@ -46,19 +46,19 @@ pub record RowsKeep (P : ProperTerm → Type 0) : Type 0 where
       → IsFew (with_over (primitive_form l) w s) → P (with_over (primitive_form l) w s)
 
 pub few_given : (s s' : ProperTerm) → (few_factors s).outcome ≡ Ok s' → IsFew s
-few_given s s' e = leb-true (total_power s.up + total_power s.down + total_power s.over) 24
-    (limit_gave factors_limit 24 (total_power s.up + total_power s.down + total_power s.over) s s' e).few
+few_given s s' e =
+    (limit_gave Factors (total_power s.up + total_power s.down + total_power s.over) s s' e).few
 
 pub limits_given : (l l' : LinearForm) → (limited_form l).outcome ≡ Ok l' → IsWithinLimits l
 limits_given l l' e =
-    let g = then_gave (within_limit slope_limit 8 (unsigned_abs l.n_slope) l) (λ f1.
-    within_limit slope_limit 8 (unsigned_abs l.k_slope) l then (λ f2. within_limit offset_limit 1000000 (unsigned_abs l.offset) l)) l' e in
-    let h = then_gave (within_limit slope_limit 8 (unsigned_abs l.k_slope) l) (λ f2. within_limit offset_limit 1000000 (unsigned_abs l.offset) l)
+    let g = then_gave (within_limit Slope (unsigned_abs l.n_slope) l) (λ f1.
+    within_limit Slope (unsigned_abs l.k_slope) l then (λ f2. within_limit Offset (unsigned_abs l.offset) l)) l' e in
+    let h = then_gave (within_limit Slope (unsigned_abs l.k_slope) l) (λ f2. within_limit Offset (unsigned_abs l.offset) l)
     l' g.second in
     record {
-      n_slope = leb-true (unsigned_abs l.n_slope) 8 (limit_gave slope_limit 8 (unsigned_abs l.n_slope) l g.value g.first).few;
-      k_slope = leb-true (unsigned_abs l.k_slope) 8 (limit_gave slope_limit 8 (unsigned_abs l.k_slope) l h.value h.first).few;
-      offset = leb-true (unsigned_abs l.offset) 1000000 (limit_gave offset_limit 1000000 (unsigned_abs l.offset) l l' h.second).few;
+      n_slope = (limit_gave Slope (unsigned_abs l.n_slope) l g.value g.first).few;
+      k_slope = (limit_gave Slope (unsigned_abs l.k_slope) l h.value h.first).few;
+      offset = (limit_gave Offset (unsigned_abs l.offset) l l' h.second).few;
     }
 
 pub negated_not_zero : (w : ℤ) → w ≢ pos 0 → neg_ℤ w ≢ pos 0

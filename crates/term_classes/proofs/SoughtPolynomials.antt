@@ -5,17 +5,20 @@ use Rattle.std.specs.Prelude.{ℤ, pos, negsuc, unsigned_abs, if◌then◌else�
 use Rattle.ring_laws.specs.Meaning.{Meaning}
 use Rattle.hypergeometric.specs.Tree.{Tree, tree, Node, literal, variable_n, variable_k, sum_of, product_of, power_of, factorial_of, binomial_of, Parts, no_parts, part}
 use Rattle.hypergeometric.specs.TreePolynomial.{in_n_and_k, poly_n, poly_k, poly_power, constant_of, combined, signed_poly, raised, tree_polynomial, node_polynomial, sum_polynomial, product_polynomial}
-use Rattle.term_classes.specs.Refusals.{exponent_limit}
-use Rattle.term_classes.specs.Steps.{Counterpart, of_polynomial, gives, within_limit, ◌then◌}
-use Rattle.term_classes.specs.Sought.{size_raised, sum_of_polynomials, product_of_polynomials, sizes_added, sizes_multiplied, signed_polynomial, in_front, made_of, raised_at, where_some, where_natural, polynomial_sought, node_polynomial_sought, summands_sought, factors_sought}
-use Rattle.term_classes.proofs.StepLaws.{then_gave, same_Ok, limit_gave}
+use Rattle.steps.proofs.StepLaws.{then_gave, same_Ok, limit_gave}
+use Rattle.steps.specs.Found.{in_front, made_of, where_some}
+use Rattle.steps.specs.Operations.{Counterpart, of_polynomial}
+use Rattle.steps.specs.TermFaults.{Improper}
+use Rattle.steps.specs.Steps.{gives, within_limit, ◌then◌}
+use Rattle.steps.specs.declared.limits.LimitName.TheVariants.{Exponent}
+use Rattle.term_classes.specs.Sought.{size_raised, sum_of_polynomials, product_of_polynomials, sizes_added, sizes_multiplied, signed_polynomial, raised_at, where_natural, polynomial_sought, node_polynomial_sought, summands_sought, factors_sought}
 
 abbrev where_there : {A B : Type 0} → (A → B) → Option A → Option B
 where_there f None = None
 where_there f (Some x) = Some (f x)
 
-made_gave : {A B : Type 0} (at : ℕ) (c : A → Counterpart) (f : A → B) (x : Option A) (y : Option B) → (made_of at c f x).outcome ≡ Ok y
-    → where_there f x ≡ y
+made_gave : {A B : Type 0} (at : ℕ) (c : A → Counterpart) (f : A → B) (x : Option A) (y : Option B) → (made_of {P = ℕ} {R = Improper} at c f x).outcome
+    ≡ Ok y → where_there f x ≡ y
 made_gave at c f None y e = same_Ok None y e
 made_gave at c f (Some x) y e = same_Ok (Some (f x)) y e
 
@@ -68,17 +71,17 @@ small_exponent (Some p) c h =
 
 -- a base to the exponent that was found
 one_power : (at : ℕ) (base : Tree) (c : Option ℤ) (p : Option Meaning)
-    → (where_some c (λ c. within_limit exponent_limit 12 (unsigned_abs c) c then (λ c1.
+    → (where_some c (λ c. within_limit Exponent (unsigned_abs c) c then (λ c1.
     where_natural c (λ power. polynomial_sought base then (raised_at at power))))).outcome ≡ Ok p
     → ((q : Option Meaning) → (polynomial_sought base).outcome ≡ Ok q → tree_polynomial base ≡ q)
     → raised (tree_polynomial base) c ≡ p
 one_power at base None p e h = no_exponent (tree_polynomial base) ∙ same_Ok None p e
 one_power at base (Some (negsuc c)) p e h =
-    let g = then_gave (within_limit exponent_limit 12 (suc c) (negsuc c)) (λ c1. gives None) p e in
+    let g = then_gave (within_limit Exponent (suc c) (negsuc c)) (λ c1. gives None) p e in
     negative_exponent (tree_polynomial base) c ∙ same_Ok None p g.second
 one_power at base (Some (pos c)) p e h =
-    let g = then_gave (within_limit exponent_limit 12 c (pos c)) (λ c1. polynomial_sought base then (raised_at at c)) p e in
-    let small : c ≤ 12 = leb-true c 12 (limit_gave exponent_limit 12 c (pos c) g.value g.first).few in
+    let g = then_gave (within_limit Exponent c (pos c)) (λ c1. polynomial_sought base then (raised_at at c)) p e in
+    let small : c ≤ 12 = (limit_gave Exponent c (pos c) g.value g.first).few in
     let b = then_gave (polynomial_sought base) (raised_at at c) p g.second in
     ap (λ a. raised a (Some (pos c))) (h b.value b.first) ∙ small_exponent b.value c small
     ∙ made_gave at (λ p. of_polynomial (size_raised p c)) (λ p. poly_power p c) b.value p b.second
@@ -98,7 +101,7 @@ mutual
       let g = then_gave (factors_sought parts) (made_of at (λ ps. of_polynomial (sizes_multiplied ps)) product_of_polynomials) p e in
       factors_are parts g.value g.first ∙ made_gave at (λ ps. of_polynomial (sizes_multiplied ps)) product_of_polynomials g.value p g.second
   node_sought_is at (power_of base e) p h =
-      let g = then_gave (polynomial_sought e) (λ p. where_some (constant_of p) (λ c. within_limit exponent_limit 12 (unsigned_abs c) c then (λ c1.
+      let g = then_gave (polynomial_sought e) (λ p. where_some (constant_of p) (λ c. within_limit Exponent (unsigned_abs c) c then (λ c1.
       where_natural c (λ power. polynomial_sought base then (raised_at at power))))) p h in
       ap (λ q. raised (tree_polynomial base) (constant_of q)) (sought_is e g.value g.first)
       ∙ one_power at base (constant_of g.value) p g.second (sought_is base)

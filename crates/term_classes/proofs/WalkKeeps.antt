@@ -6,13 +6,14 @@ use Rattle.hypergeometric.specs.ProperTerm.{ProperTerm}
 use Rattle.hypergeometric.specs.Tree.{Tree, tree, Node, literal, variable_n, variable_k, sum_of, product_of, power_of, factorial_of, binomial_of, Parts, no_parts, part}
 use Rattle.hypergeometric.specs.TreePolynomial.{constant_of}
 use Rattle.hypergeometric.specs.TreeValue.{part_power}
-use Rattle.term_classes.specs.Refusals.{exponent_limit}
-use Rattle.term_classes.specs.Steps.{Steps, gives, within_limit, ◌then◌}
+use Rattle.steps.proofs.StepLaws.{then_gave, same_Ok}
+use Rattle.steps.specs.Steps.{gives, within_limit, ◌then◌}
+use Rattle.steps.specs.TermFaults.{TermSteps}
+use Rattle.steps.specs.declared.limits.LimitName.TheVariants.{Exponent}
 use Rattle.term_classes.specs.Divisors.{lowest_terms, raised_fraction}
 use Rattle.term_classes.specs.Forms.{is_zero, linear_form_of, limited_form}
 use Rattle.term_classes.specs.Sought.{polynomial_sought}
 use Rattle.term_classes.specs.Walk.{with_scale, place_of, with_factorial, argument_sought, not_negative, walk, walk_node, walk_parts}
-use Rattle.term_classes.proofs.StepLaws.{then_gave, same_Ok}
 use Rattle.term_classes.proofs.WalkRows.{whole_nonzero}
 use Rattle.term_classes.proofs.ArgumentRows.{skipped}
 use Rattle.term_classes.proofs.WalkValues.{exponential_walk, minus_one_not_zero}
@@ -37,8 +38,8 @@ module _ (P : ProperTerm → Type 0) (rows : RowsKeep P) where
         (rows.scale s (of_whole (negsuc 0)) w p (whole_nonzero (negsuc 0) minus_one_not_zero)) e
     node_keeps at (product_of parts) w s s' n p e = parts_keep parts w s s' n p e
     node_keeps at (power_of base e) w s s' n p given =
-        let g = then_gave (polynomial_sought e) (λ p. elim (constant_of p) as (λ _. Steps ProperTerm) [
-          | Some c ↦ within_limit exponent_limit 12 (unsigned_abs (w *ℤ c)) c then (λ c1. if is_zero c then gives s else walk base (w *ℤ c) s)
+        let g = then_gave (polynomial_sought e) (λ p. elim (constant_of p) as (λ _. TermSteps ProperTerm) [
+          | Some c ↦ within_limit Exponent (unsigned_abs (w *ℤ c)) c then (λ c1. if is_zero c then gives s else walk base (w *ℤ c) s)
           | None ↦ exponential_walk at base e (linear_form_of p) w s
         ]) s' given in
         power_keeps P rows at base e (linear_form_of g.value) (constant_of g.value) w s s' n p g.second (λ v m f. walk_keeps base v s s' m p f)

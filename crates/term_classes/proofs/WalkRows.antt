@@ -11,8 +11,10 @@ use Rattle.hypergeometric.specs.TreeValue.{factorial_power}
 use Rattle.hypergeometric.specs.TermFacts.{total_power}
 use Rattle.hypergeometric.proofs.FractionLaws.{one_not_zero}
 use Rattle.lin_form.specs.FactorLists as lists
-use Rattle.term_classes.specs.Refusals.{improper, factors_limit}
-use Rattle.term_classes.specs.Steps.{Steps, gives, refuses, ◌then◌}
+use Rattle.steps.proofs.StepLaws.{then_gave, same_Ok, limit_gave, not_refused}
+use Rattle.steps.specs.Steps.{gives, refuses, ◌then◌}
+use Rattle.steps.specs.TermFaults.{improper, TermSteps}
+use Rattle.steps.specs.declared.limits.LimitName.TheVariants.{Factors}
 use Rattle.term_classes.specs.Divisors.{lowest_terms, raised_fraction}
 use Rattle.term_classes.specs.Forms.{is_zero, linear_form_of, content_of_form, primitive_form, limited_form}
 use Rattle.term_classes.specs.Walk.{with_lists, with_scale, with_poly, times_power, few_factors, with_factorial, with_denominator, times_number, times_polynomial, times_sought}
@@ -20,7 +22,6 @@ use Rattle.term_classes.proofs.SameValues.{◌≅◌, same, same_chain, same_tur
 use Rattle.term_classes.proofs.FractionPowers.{product_comm, whole_power_of_product}
 use Rattle.term_classes.proofs.PassingPolynomials.{Belongs}
 use Rattle.term_classes.proofs.VaryingForms.{IsVarying, varying_not_zero}
-use Rattle.term_classes.proofs.StepLaws.{then_gave, same_Ok, limit_gave, not_refused}
 use Rattle.term_classes.proofs.PolynomialParts.{value_of_power}
 use Rattle.term_classes.proofs.ConstantPowers.{constant_value, not_zero}
 use Rattle.term_classes.proofs.TermProducts.{IsTimes, times_both, times_same}
@@ -28,7 +29,7 @@ use Rattle.term_classes.proofs.FieldProducts.{scale_times, poly_times, up_times,
 use Rattle.term_classes.proofs.FormValues.{linear_value, content_not_zero, content_times}
 
 pub few_same : (s s' : ProperTerm) → (few_factors s).outcome ≡ Ok s' → s ≡ s'
-few_same s s' e = (limit_gave factors_limit 24 (total_power s.up + total_power s.down + total_power s.over) s s' e).same
+few_same s s' e = (limit_gave Factors (total_power s.up + total_power s.down + total_power s.over) s s' e).same
 
 -- a factorial, above or below
 pub factorial_row : (l : LinearForm) (w : ℤ) (s s' : ProperTerm) → HasFractions s → (with_factorial l w s).outcome ≡ Ok s'
@@ -96,7 +97,7 @@ polynomial_row at poly (pos w) s s' varying h e =
     (poly_times s h (poly_power poly w)) (λ p. same (value_of_power p poly w)))
 polynomial_row at poly (negsuc w) s s' varying h e = by (linear_form_of (Some poly)) refl e
   where
-    by : (o : Option LinearForm) → linear_form_of (Some poly) ≡ o → (elim o as (λ _. Steps ProperTerm) [
+    by : (o : Option LinearForm) → linear_form_of (Some poly) ≡ o → (elim o as (λ _. TermSteps ProperTerm) [
       | None ↦ refuses (improper 3 at)
       | Some l ↦ limited_form l then (λ l1. with_denominator at l (suc w) s)
     ]).outcome ≡ Ok s' → IsTimes s s' (λ p. whole_power (of_whole (poly_value poly p)) (negsuc w))
@@ -114,7 +115,7 @@ pub sought_row : (at : ℕ) (w : ℤ) (s s' : ProperTerm) (poly : Option Meaning
 sought_row at w s s' None belongs h e v f = absurd (not_refused (improper 6 at) s' e)
 sought_row at w s s' (Some q) belongs h e v f = by (constant_in_k (items q)) refl e
   where
-    by : (c : Option ℤ) → constant_in_k (items q) ≡ c → (elim c as (λ _. Steps ProperTerm) [
+    by : (c : Option ℤ) → constant_in_k (items q) ≡ c → (elim c as (λ _. TermSteps ProperTerm) [
       | Some z ↦ times_number at z w s
       | None ↦ times_polynomial at q w s
     ]).outcome ≡ Ok s' → IsTimes s s' v

@@ -11,8 +11,10 @@ use Rattle.hypergeometric.specs.Tree.{Tree, tree, Node, literal, variable_n, var
 use Rattle.hypergeometric.specs.TreePolynomial.{constant_of, tree_polynomial}
 use Rattle.hypergeometric.specs.TreeValue.{tree_value, node_value, product_value, part_power, factorial_power, at_whole, defined_power}
 use Rattle.hypergeometric.proofs.FractionLaws.{one_not_zero}
-use Rattle.term_classes.specs.Refusals.{improper, exponent_limit}
-use Rattle.term_classes.specs.Steps.{Steps, gives, refuses, within_limit, ◌then◌}
+use Rattle.steps.proofs.StepLaws.{then_gave, same_Ok, not_refused}
+use Rattle.steps.specs.Steps.{gives, refuses, within_limit, ◌then◌}
+use Rattle.steps.specs.TermFaults.{improper, TermSteps}
+use Rattle.steps.specs.declared.limits.LimitName.TheVariants.{Exponent}
 use Rattle.term_classes.specs.Divisors.{lowest_terms, raised_fraction}
 use Rattle.term_classes.specs.Forms.{is_zero, linear_form_of, limited_form, limited_exponent}
 use Rattle.term_classes.specs.Sought.{polynomial_sought, node_polynomial_sought, constant_sought}
@@ -20,7 +22,6 @@ use Rattle.term_classes.specs.Walk.{with_scale, place_of, times_sought, form_or_
 use Rattle.term_classes.proofs.SameValues.{◌≅◌, same, same_chain, same_turned, same_defined, same_whole_powers}
 use Rattle.term_classes.proofs.FractionPowers.{product_one}
 use Rattle.term_classes.proofs.PassingPolynomials.{node_belongs}
-use Rattle.term_classes.proofs.StepLaws.{then_gave, same_Ok, not_refused}
 use Rattle.term_classes.proofs.PolynomialValues.{node_has}
 use Rattle.term_classes.proofs.PolynomialParts.{power_value}
 use Rattle.term_classes.proofs.SoughtPolynomials.{sought_is, node_sought_is}
@@ -45,7 +46,7 @@ pub base_found : (at : ℕ) (b : Option Fraction) (f : Fraction) → (base_or_re
 base_found at None f e = absurd (not_refused (improper 4 at) f e)
 base_found at (Some g) f e = by (is_zero g.top) refl e
   where
-    by : (b : Bool) → is_zero g.top ≡ b → (if b then refuses (improper 4 at) else gives g).outcome ≡ Ok f → IsBase (Some g) f
+    by : (b : Bool) → is_zero g.top ≡ b → (if b then refuses {P = ℕ} (improper 4 at) else gives g).outcome ≡ Ok f → IsBase (Some g) f
     by true p q = absurd (not_refused (improper 4 at) f q)
     by false p q = record { found = ap Some (same_Ok g f q); top = subst (λ f. f.top ≢ pos 0) (same_Ok g f q) (not_zero g.top p) }
 
@@ -53,7 +54,7 @@ abbrev exponent_value : Tree → Tree → ℤ → Point → Fraction
 exponent_value base e w p = at_whole (λ z. defined_power (tree_value base (pos 1) p) (w *ℤ z)) (tree_value e (pos 1) p)
 
 -- an exponent that is no constant
-abbrev pub exponential_walk : ℕ → Tree → Tree → Option LinearForm → ℤ → ProperTerm → Steps ProperTerm
+abbrev pub exponential_walk : ℕ → Tree → Tree → Option LinearForm → ℤ → ProperTerm → TermSteps ProperTerm
 exponential_walk at base e l w s = constant_sought base then (λ b. base_or_refused at b then (λ b1. form_or_refused 5 e l then (λ l.
     limited_exponent l then (λ l1. times_exponential at b1 l w s))))
 
@@ -86,14 +87,14 @@ constant_walk base c w s s' h rest true e = subst (λ t. IsTimes s t (λ p. of_w
 constant_walk base c w s s' h rest false e = rest (w *ℤ c) s s' h e
 
 power_has : (at : ℕ) (base e : Tree) (poly : Option Meaning) (c : Option ℤ) (w : ℤ) (s s' : ProperTerm) → HasFractions s → tree_polynomial e ≡ poly
-    → (elim c as (λ _. Steps ProperTerm) [
-      | Some c ↦ within_limit exponent_limit 12 (unsigned_abs (w *ℤ c)) c then (λ c1. if is_zero c then gives s else walk base (w *ℤ c) s)
+    → (elim c as (λ _. TermSteps ProperTerm) [
+      | Some c ↦ within_limit Exponent (unsigned_abs (w *ℤ c)) c then (λ c1. if is_zero c then gives s else walk base (w *ℤ c) s)
       | None ↦ exponential_walk at base e (linear_form_of poly) w s
     ]).outcome ≡ Ok s' → WalkMultiplies base → IsTimes s s' (λ p. power_value base c w p (exponent_value base e w p))
 power_has at base e poly None w s s' h is given rest = exponential_has at base e poly w s s' h is given
 power_has at base e poly (Some c) w s s' h is given rest =
     constant_walk base c w s s' h rest (is_zero c)
-    (skipped (within_limit exponent_limit 12 (unsigned_abs (w *ℤ c)) c) (if is_zero c then gives s else walk base (w *ℤ c) s) s' given)
+    (skipped (within_limit Exponent (unsigned_abs (w *ℤ c)) c) (if is_zero c then gives s else walk base (w *ℤ c) s) s' given)
 
 -- a literal, n, k or a sum
 sought_has : (at : ℕ) (node : Node) (w : ℤ) (s s' : ProperTerm) → HasFractions s
@@ -125,8 +126,8 @@ mutual
       times_both s r s' (λ p. whole_power (of_whole (negsuc 0)) w) (tree_value t w) own (walk_multiplies t w r s' own.fractions e)
   node_multiplies at (product_of parts) w s s' h e = parts_multiply parts w s s' h e
   node_multiplies at (power_of base e) w s s' h given =
-      let g = then_gave (polynomial_sought e) (λ own. elim (constant_of own) as (λ _. Steps ProperTerm) [
-        | Some c ↦ within_limit exponent_limit 12 (unsigned_abs (w *ℤ c)) c then (λ c1. if is_zero c then gives s else walk base (w *ℤ c) s)
+      let g = then_gave (polynomial_sought e) (λ own. elim (constant_of own) as (λ _. TermSteps ProperTerm) [
+        | Some c ↦ within_limit Exponent (unsigned_abs (w *ℤ c)) c then (λ c1. if is_zero c then gives s else walk base (w *ℤ c) s)
         | None ↦ exponential_walk at base e (linear_form_of own) w s
       ]) s' given in
       subst (λ q. IsTimes s s' (λ p. power_value base (constant_of q) w p (exponent_value base e w p))) (sym (sought_is e g.value g.first))

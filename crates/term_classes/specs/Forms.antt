@@ -5,8 +5,9 @@ use Rattle.ring_laws.specs.Meaning.{Meaning, items}
 use Rattle.ring_laws.specs.Wholes.{number_of}
 use Rattle.hypergeometric.specs.LinearForm.{LinearForm}
 use Rattle.hypergeometric.specs.TreePolynomial.{constant_in_n}
-use Rattle.term_classes.specs.Refusals.{slope_limit, offset_limit, exponent_limit}
-use Rattle.term_classes.specs.Steps.{Steps, within_limit, ◌then◌}
+use Rattle.steps.specs.Steps.{within_limit, ◌then◌}
+use Rattle.steps.specs.TermFaults.{TermSteps}
+use Rattle.steps.specs.declared.limits.LimitName.TheVariants.{Slope, Offset, Exponent}
 use Rattle.term_classes.specs.Divisors.{greatest_common_divisor, turned_where}
 
 abbrev pub with_numbers : ℤ → ℤ → ℤ → LinearForm
@@ -64,11 +65,11 @@ abbrev pub primitive_form : LinearForm → LinearForm
 primitive_form f = with_numbers (int_div f.n_slope (content_of_form f)) (int_div f.k_slope (content_of_form f)) (int_div f.offset (content_of_form f))
 
 -- The limits of an argument or a denominator, in this order: slopes up to 8, an offset up to 1000000.
-abbrev pub limited_form : LinearForm → Steps LinearForm
-limited_form f = within_limit slope_limit 8 (unsigned_abs f.n_slope) f then (λ f1.
-    within_limit slope_limit 8 (unsigned_abs f.k_slope) f then (λ f2. within_limit offset_limit 1000000 (unsigned_abs f.offset) f))
+abbrev pub limited_form : LinearForm → TermSteps LinearForm
+limited_form f = within_limit Slope (unsigned_abs f.n_slope) f then (λ f1.
+    within_limit Slope (unsigned_abs f.k_slope) f then (λ f2. within_limit Offset (unsigned_abs f.offset) f))
 
 -- The limits of an exponent: slopes up to 8, a constant part up to 12.
-abbrev pub limited_exponent : LinearForm → Steps LinearForm
-limited_exponent f = within_limit slope_limit 8 (unsigned_abs f.n_slope) f then (λ f1.
-    within_limit slope_limit 8 (unsigned_abs f.k_slope) f then (λ f2. within_limit exponent_limit 12 (unsigned_abs f.offset) f))
+abbrev pub limited_exponent : LinearForm → TermSteps LinearForm
+limited_exponent f = within_limit Slope (unsigned_abs f.n_slope) f then (λ f1.
+    within_limit Slope (unsigned_abs f.k_slope) f then (λ f2. within_limit Exponent (unsigned_abs f.offset) f))

@@ -1,5 +1,3 @@
-pub mod Refusals
-pub mod Steps
 pub mod Divisors
 pub mod Forms
 pub mod Sought

@@ -2,8 +2,9 @@
 use Rattle.std.specs.Prelude.{ℕ, ◌-◌, min, if◌then◌else◌, nat_eq, List, [], ◌∷◌, length, Option, Some, None}
 use Rattle.ring_laws.specs.Meaning.{Meaning, items, listed}
 use Rattle.hypergeometric.specs.Tree.{Tree, tree, Node, literal, variable_n, variable_k, sum_of, product_of, power_of, factorial_of, binomial_of, Parts, no_parts, part}
-use Rattle.term_classes.specs.Refusals.{improper, order_limit}
-use Rattle.term_classes.specs.Steps.{Steps, gives, refuses, within_limit, ◌then◌}
+use Rattle.steps.specs.Steps.{gives, refuses, within_limit, ◌then◌}
+use Rattle.steps.specs.TermFaults.{improper, TermSteps}
+use Rattle.steps.specs.declared.limits.LimitName.TheVariants.{Order}
 use Rattle.term_classes.specs.Sought.{polynomial_sought}
 use Rattle.term_classes.specs.Walk.{place_of}
 
@@ -37,34 +38,34 @@ abbrev pub in_n_alone : List Meaning → Meaning
 in_n_alone [] = listed []
 in_n_alone (c ∷ cs) = c
 
-abbrev pub polynomial_or_refused : Tree → Option Meaning → Steps Meaning
+abbrev pub polynomial_or_refused : Tree → Option Meaning → TermSteps Meaning
 polynomial_or_refused t None = refuses (improper 6 (place_of t))
 polynomial_or_refused t (Some p) = gives (in_n_alone (items p))
 
-abbrev pub coefficient_sought : Tree → Steps Meaning
-coefficient_sought t = elim (place_of_k t) as (λ _. Steps Meaning) [
+abbrev pub coefficient_sought : Tree → TermSteps Meaning
+coefficient_sought t = elim (place_of_k t) as (λ _. TermSteps Meaning) [
   | Some at ↦ refuses (improper 8 at)
   | None ↦ polynomial_sought t then (polynomial_or_refused t)
 ]
 
-abbrev pub coefficients_sought : List Tree → Steps (List Meaning)
+abbrev pub coefficients_sought : List Tree → TermSteps (List Meaning)
 coefficients_sought [] = gives []
 coefficients_sought (t ∷ ts) = coefficient_sought t then (λ p. coefficients_sought ts then (λ ps. gives (p ∷ ps)))
 
 -- a polynomial that is 0 is refused at its tree
-abbrev pub not_zero_at : Tree → Meaning → Steps Meaning
+abbrev pub not_zero_at : Tree → Meaning → TermSteps Meaning
 not_zero_at t p = if nat_eq (length (items p)) 0 then refuses (improper 7 (place_of t)) else gives p
 
-abbrev pub first_not_zero : List Tree → List Meaning → Steps (List Meaning)
+abbrev pub first_not_zero : List Tree → List Meaning → TermSteps (List Meaning)
 first_not_zero (t ∷ ts) (p ∷ ps) = not_zero_at t p then (λ q. gives (p ∷ ps))
 first_not_zero ts ps = gives ps
 
-abbrev pub last_not_zero : List Tree → List Meaning → Steps (List Meaning)
+abbrev pub last_not_zero : List Tree → List Meaning → TermSteps (List Meaning)
 last_not_zero (t ∷ []) (p ∷ []) = not_zero_at t p then (λ q. gives (p ∷ []))
 last_not_zero (t ∷ s ∷ ts) (p ∷ ps) = last_not_zero (s ∷ ts) ps then (λ qs. gives (p ∷ qs))
 last_not_zero ts ps = gives ps
 
 -- The polynomials of a recurrence of order at most 6, of which neither the first nor the last is 0.
-abbrev pub recurrence_sought : List Tree → Steps (List Meaning)
-recurrence_sought ts = within_limit order_limit 6 (length ts - 1) ts then (λ ts1. coefficients_sought ts then (λ ps.
+abbrev pub recurrence_sought : List Tree → TermSteps (List Meaning)
+recurrence_sought ts = within_limit Order (length ts - 1) ts then (λ ts1. coefficients_sought ts then (λ ps.
     first_not_zero ts ps then (λ ps1. last_not_zero ts ps)))

@@ -6,8 +6,11 @@ use Rattle.hypergeometric.specs.Fraction.{Fraction, of_whole, fraction_negative,
 use Rattle.hypergeometric.specs.Tree.{Tree, tree, Node, literal, variable_n, variable_k, sum_of, product_of, power_of, factorial_of, binomial_of, Parts, no_parts, part}
 use Rattle.hypergeometric.specs.TreePolynomial.{in_n_and_k, poly_n, poly_k, poly_power, constant_in_k, constant_of}
 use Rattle.lin_form.specs.Products.{power_in, nonzero_magnitude}
-use Rattle.term_classes.specs.Refusals.{exponent_limit}
-use Rattle.term_classes.specs.Steps.{Steps, Counterpart, of_polynomial, of_fraction, gives, makes, within_limit, ◌then◌}
+use Rattle.steps.specs.Operations.{of_polynomial, of_fraction}
+use Rattle.steps.specs.Found.{in_front, where_some, made_of}
+use Rattle.steps.specs.Steps.{gives, makes, within_limit, ◌then◌}
+use Rattle.steps.specs.TermFaults.{TermSteps}
+use Rattle.steps.specs.declared.limits.LimitName.TheVariants.{Exponent}
 use Rattle.term_classes.specs.Divisors.{lowest_terms, raised_fraction, size_of_top, size_of_bottom}
 use Rattle.term_classes.specs.Forms.{is_zero}
 
@@ -35,33 +38,19 @@ abbrev pub signed_polynomial : Bool → Meaning → Meaning
 signed_polynomial true p = in_n_and_k.neg p
 signed_polynomial false p = p
 
--- one more item, where there is a list
-abbrev pub in_front : {A : Type 0} → A → Option (List A) → Option (List A)
-in_front x None = None
-in_front x (Some xs) = Some (x ∷ xs)
-
-abbrev pub made_of : {A B : Type 0} → ℕ → (A → Counterpart) → (A → B) → Option A → Steps (Option B)
-made_of at counterpart value None = gives None
-made_of at counterpart value (Some x) = makes at (counterpart x) (Some (value x))
-
-abbrev pub raised_at : ℕ → ℕ → Option Meaning → Steps (Option Meaning)
+abbrev pub raised_at : ℕ → ℕ → Option Meaning → TermSteps (Option Meaning)
 raised_at at e = made_of at (λ p. of_polynomial (size_raised p e)) (λ p. poly_power p e)
 
--- f where there is something, and nothing where there isn't
-abbrev pub where_some : {A B : Type 0} → Option A → (A → Steps (Option B)) → Steps (Option B)
-where_some None f = gives None
-where_some (Some x) f = f x
-
 -- a constant exponent of a polynomial is from 0 to 12: a negative one decides that there is none
-abbrev pub where_natural : ℤ → (ℕ → Steps (Option Meaning)) → Steps (Option Meaning)
+abbrev pub where_natural : ℤ → (ℕ → TermSteps (Option Meaning)) → TermSteps (Option Meaning)
 where_natural (pos e) f = f e
 where_natural (negsuc e) f = gives None
 
 abbrev mutual
-  pub polynomial_sought : Tree → Steps (Option Meaning)
+  pub polynomial_sought : Tree → TermSteps (Option Meaning)
   polynomial_sought (tree at node) = node_polynomial_sought at node
 
-  pub node_polynomial_sought : ℕ → Node → Steps (Option Meaning)
+  pub node_polynomial_sought : ℕ → Node → TermSteps (Option Meaning)
   node_polynomial_sought at (literal c) = gives (Some (in_n_and_k.whole (pos c)))
   node_polynomial_sought at variable_n = gives (Some poly_n)
   node_polynomial_sought at variable_k = gives (Some poly_k)
@@ -70,19 +59,19 @@ abbrev mutual
   node_polynomial_sought at (product_of parts) =
       factors_sought parts then (made_of at (λ ps. of_polynomial (sizes_multiplied ps)) product_of_polynomials)
   node_polynomial_sought at (power_of base e) = polynomial_sought e then (λ p.
-      where_some (constant_of p) (λ c. within_limit exponent_limit 12 (unsigned_abs c) c then (λ c1.
+      where_some (constant_of p) (λ c. within_limit Exponent (unsigned_abs c) c then (λ c1.
       where_natural c (λ power. polynomial_sought base then (raised_at at power)))))
   node_polynomial_sought at (factorial_of t) = gives None
   node_polynomial_sought at (binomial_of l m) = gives None
 
   -- the polynomials of the parts of a sum, with their signs
-  pub summands_sought : Parts → Steps (Option (List Meaning))
+  pub summands_sought : Parts → TermSteps (Option (List Meaning))
   summands_sought no_parts = gives (Some [])
   summands_sought (part turned t parts) = polynomial_sought t then (λ p.
       where_some p (λ p1. summands_sought parts then (λ ps. gives (in_front (signed_polynomial turned p1) ps))))
 
   -- those of the parts of a product; a part that is divided by decides that there is none
-  pub factors_sought : Parts → Steps (Option (List Meaning))
+  pub factors_sought : Parts → TermSteps (Option (List Meaning))
   factors_sought no_parts = gives (Some [])
   factors_sought (part true t parts) = gives None
   factors_sought (part false t parts) = polynomial_sought t then (λ p.
@@ -114,12 +103,12 @@ bottom_sizes [] = 1
 bottom_sizes (x ∷ xs) = size_of_bottom (factor_fraction x) * bottom_sizes xs
 
 -- the product in lowest terms, where nothing is divided by 0
-abbrev pub product_made : ℕ → Option (List FractionFactor) → Steps (Option Fraction)
+abbrev pub product_made : ℕ → Option (List FractionFactor) → TermSteps (Option Fraction)
 product_made at fs = where_some fs (λ xs. if divides_by_zero xs then gives None
     else makes at (of_fraction (top_sizes xs) (bottom_sizes xs)) (Some (lowest_terms (product_of_fractions xs))))
 
 -- f to a constant power, where 0 isn't raised to a negative one
-abbrev pub power_made : ℕ → ℤ → Fraction → Steps (Option Fraction)
+abbrev pub power_made : ℕ → ℤ → Fraction → TermSteps (Option Fraction)
 power_made at (negsuc e) f = if is_zero f.top then gives None
     else makes at (of_fraction (size_of_top (raised_fraction f (negsuc e))) (size_of_bottom (raised_fraction f (negsuc e))))
     (Some (lowest_terms (raised_fraction f (negsuc e))))
@@ -137,21 +126,21 @@ negative_of (Some f) = Some (fraction_negative f)
 
 -- A tree is a constant where its polynomial is one; other cases are looked at only where it has no polynomial.
 abbrev mutual
-  pub constant_sought : Tree → Steps (Option Fraction)
-  constant_sought (tree at node) = node_polynomial_sought at node then (λ p. elim p as (λ _. Steps (Option Fraction)) [
+  pub constant_sought : Tree → TermSteps (Option Fraction)
+  constant_sought (tree at node) = node_polynomial_sought at node then (λ p. elim p as (λ _. TermSteps (Option Fraction)) [
     | Some q ↦ gives (whole_fraction (constant_in_k (items q)))
     | None ↦ node_constant_sought at node
   ])
 
-  pub node_constant_sought : ℕ → Node → Steps (Option Fraction)
+  pub node_constant_sought : ℕ → Node → TermSteps (Option Fraction)
   node_constant_sought at (sum_of (part true t no_parts)) = constant_sought t then (λ f. gives (negative_of f))
   node_constant_sought at (product_of parts) = constants_sought parts then (product_made at)
   node_constant_sought at (power_of base e) = polynomial_sought e then (λ p.
-      where_some (constant_of p) (λ c. within_limit exponent_limit 12 (unsigned_abs c) c then (λ c1.
+      where_some (constant_of p) (λ c. within_limit Exponent (unsigned_abs c) c then (λ c1.
       constant_sought base then (λ f. where_some f (power_made at c)))))
   node_constant_sought at node = gives None
 
-  pub constants_sought : Parts → Steps (Option (List FractionFactor))
+  pub constants_sought : Parts → TermSteps (Option (List FractionFactor))
   constants_sought no_parts = gives (Some [])
   constants_sought (part turned t parts) = constant_sought t then (λ f.
       where_some f (λ f1. constants_sought parts then (λ fs. gives (in_front (turned, f1) fs))))

@@ -11,8 +11,10 @@ use Rattle.hypergeometric.specs.Tree.{Tree, tree, Node, sum_of, product_of, powe
 use Rattle.hypergeometric.specs.TreePolynomial.{in_n_and_k, poly_power, constant_in_k, constant_of}
 use Rattle.hypergeometric.specs.TreeValue.{part_power}
 use Rattle.lin_form.specs.FactorLists as lists
-use Rattle.term_classes.specs.Refusals.{improper, factors_limit, exponent_limit}
-use Rattle.term_classes.specs.Steps.{Steps, of_number, of_polynomial, of_fraction, gives, makes, refuses, within_limit, ◌then◌}
+use Rattle.steps.specs.Operations.{of_number, of_polynomial, of_fraction}
+use Rattle.steps.specs.Steps.{gives, makes, refuses, within_limit, ◌then◌}
+use Rattle.steps.specs.TermFaults.{improper, TermSteps}
+use Rattle.steps.specs.declared.limits.LimitName.TheVariants.{Factors, Exponent}
 use Rattle.term_classes.specs.Divisors.{lowest_terms, raised_fraction, size_of_top, size_of_bottom}
 use Rattle.term_classes.specs.Forms.{is_zero, linear_form_of, is_negative_constant, form_difference, difference_size, content_of_form, primitive_form, limited_form, limited_exponent}
 use Rattle.term_classes.specs.Sought.{polynomial_sought, node_polynomial_sought, constant_sought, size_raised}
@@ -41,74 +43,74 @@ abbrev pub with_lists : List Factor → List Factor → List Factor → List Fac
 with_lists u d o g f = record { poly = f.poly; scale = f.scale; n_base = f.n_base; k_base = f.k_base; up = u; down = d; over = o; guard = g }
 
 -- a fraction times g to a whole power, in lowest terms, as the operation of the node at a place
-abbrev pub times_power : ℕ → Fraction → Fraction → ℤ → Steps Fraction
+abbrev pub times_power : ℕ → Fraction → Fraction → ℤ → TermSteps Fraction
 times_power at f g w = makes at
     (of_fraction (size_of_top f * size_of_top (raised_fraction g w)) (size_of_bottom f * size_of_bottom (raised_fraction g w)))
     (lowest_terms (fraction_product f (raised_fraction g w)))
 
 -- at most 24 factorials and denominators, by their powers, before cancelling
-abbrev pub few_factors : ProperTerm → Steps ProperTerm
-few_factors f = within_limit factors_limit 24 (total_power f.up + total_power f.down + total_power f.over) f
+abbrev pub few_factors : ProperTerm → TermSteps ProperTerm
+few_factors f = within_limit Factors (total_power f.up + total_power f.down + total_power f.over) f
 
 -- the factorial of a form to the power w: above where w is positive, and else below
-abbrev pub with_factorial : LinearForm → ℤ → ProperTerm → Steps ProperTerm
+abbrev pub with_factorial : LinearForm → ℤ → ProperTerm → TermSteps ProperTerm
 with_factorial a (pos w) f = few_factors (with_lists (lists.with_factor a w f.up) f.down f.over f.guard f)
 with_factorial a (negsuc w) f = few_factors (with_lists f.up (lists.with_factor a (suc w) f.down) f.over f.guard f)
 
 -- one over the form to a power: its primitive part goes to the denominators, and what it was multiplied by to the scale
-abbrev pub with_denominator : ℕ → LinearForm → ℕ → ProperTerm → Steps ProperTerm
+abbrev pub with_denominator : ℕ → LinearForm → ℕ → ProperTerm → TermSteps ProperTerm
 with_denominator at l w f = few_factors (with_lists f.up f.down (lists.with_factor (primitive_form l) w f.over) f.guard f) then (λ g.
     times_power at g.scale (of_whole (content_of_form l)) (neg_ℤ (pos w)) then (λ s. gives (with_scale s g)))
 
 -- the term times a number to the power w
-abbrev pub times_number : ℕ → ℤ → ℤ → ProperTerm → Steps ProperTerm
+abbrev pub times_number : ℕ → ℤ → ℤ → ProperTerm → TermSteps ProperTerm
 times_number at z w f =
     if is_zero z then refuses (improper (if int_lt w (pos 0) then 3 else 7) at)
     else (times_power at f.scale (of_whole z) w then (λ s. gives (with_scale s f)))
 
 -- the term times a polynomial that is no number, to the power w
-abbrev pub times_polynomial : ℕ → Meaning → ℤ → ProperTerm → Steps ProperTerm
+abbrev pub times_polynomial : ℕ → Meaning → ℤ → ProperTerm → TermSteps ProperTerm
 times_polynomial at p (pos w) f = makes at (of_polynomial (in_n_and_k.product (in_n_and_k.magnitude f.poly) (size_raised p w)))
     (with_poly (in_n_and_k.product f.poly (poly_power p w)) f)
-times_polynomial at p (negsuc w) f = elim (linear_form_of (Some p)) as (λ _. Steps ProperTerm) [
+times_polynomial at p (negsuc w) f = elim (linear_form_of (Some p)) as (λ _. TermSteps ProperTerm) [
   | None ↦ refuses (improper 3 at)
   | Some l ↦ limited_form l then (λ l1. with_denominator at l (suc w) f)
 ]
 
 -- a literal, n, k or a sum, to the power w
-abbrev pub times_sought : ℕ → ℤ → ProperTerm → Option Meaning → Steps ProperTerm
+abbrev pub times_sought : ℕ → ℤ → ProperTerm → Option Meaning → TermSteps ProperTerm
 times_sought at w f None = refuses (improper 6 at)
-times_sought at w f (Some p) = elim (constant_in_k (items p)) as (λ _. Steps ProperTerm) [
+times_sought at w f (Some p) = elim (constant_in_k (items p)) as (λ _. TermSteps ProperTerm) [
   | Some z ↦ times_number at z w f
   | None ↦ times_polynomial at p w f
 ]
 
 -- the linear form that a tree stands for, and the reason's refusal at the tree where it stands for none
-abbrev pub form_or_refused : ℕ → Tree → Option LinearForm → Steps LinearForm
+abbrev pub form_or_refused : ℕ → Tree → Option LinearForm → TermSteps LinearForm
 form_or_refused reason t None = refuses (improper reason (place_of t))
 form_or_refused reason t (Some l) = gives l
 
-abbrev pub argument_sought : Tree → Steps LinearForm
+abbrev pub argument_sought : Tree → TermSteps LinearForm
 argument_sought t = polynomial_sought t then (λ p. form_or_refused 1 t (linear_form_of p))
 
 -- an argument that is a negative constant is refused
-abbrev pub not_negative : ℕ → LinearForm → Steps LinearForm
+abbrev pub not_negative : ℕ → LinearForm → TermSteps LinearForm
 not_negative at l = if is_negative_constant l then refuses (improper 2 at) else gives l
 
 -- the bases and the scale times the base to the power w * exponent
-abbrev pub times_exponential : ℕ → Fraction → LinearForm → ℤ → ProperTerm → Steps ProperTerm
+abbrev pub times_exponential : ℕ → Fraction → LinearForm → ℤ → ProperTerm → TermSteps ProperTerm
 times_exponential at base e w f =
     times_power at f.n_base base (w *ℤ e.n_slope) then (λ b.
     times_power at f.k_base base (w *ℤ e.k_slope) then (λ c.
     times_power at f.scale base (w *ℤ e.offset) then (λ s. gives (with_n_base b (with_k_base c (with_scale s f))))))
 
 -- a base that has no constant, or 0, is refused
-abbrev pub base_or_refused : ℕ → Option Fraction → Steps Fraction
+abbrev pub base_or_refused : ℕ → Option Fraction → TermSteps Fraction
 base_or_refused at None = refuses (improper 4 at)
 base_or_refused at (Some b) = if is_zero b.top then refuses (improper 4 at) else gives b
 
 -- The binomial coefficient of L and M is L! / (M! * (L - M)!).
-abbrev pub times_binomial : ℕ → Tree → Tree → ℤ → ProperTerm → Steps ProperTerm
+abbrev pub times_binomial : ℕ → Tree → Tree → ℤ → ProperTerm → TermSteps ProperTerm
 times_binomial at upper lower w f =
     argument_sought upper then (λ l. argument_sought lower then (λ m.
     not_negative (place_of upper) l then (λ l1. not_negative (place_of lower) m then (λ m1.
@@ -117,15 +119,15 @@ times_binomial at upper lower w f =
     with_factorial l w f then (λ g. with_factorial m (neg_ℤ w) g then (λ h. with_factorial d (neg_ℤ w) h)))))))))))
 
 abbrev mutual
-  pub walk : Tree → ℤ → ProperTerm → Steps ProperTerm
+  pub walk : Tree → ℤ → ProperTerm → TermSteps ProperTerm
   walk (tree at node) w f = walk_node at node w f
 
-  pub walk_node : ℕ → Node → ℤ → ProperTerm → Steps ProperTerm
+  pub walk_node : ℕ → Node → ℤ → ProperTerm → TermSteps ProperTerm
   walk_node at (product_of parts) w f = walk_parts parts w f
   walk_node at (sum_of (part true t no_parts)) w f =
       walk t w (with_scale (lowest_terms (fraction_product f.scale (raised_fraction (of_whole (negsuc 0)) w))) f)
-  walk_node at (power_of base e) w f = polynomial_sought e then (λ p. elim (constant_of p) as (λ _. Steps ProperTerm) [
-    | Some c ↦ within_limit exponent_limit 12 (unsigned_abs (w *ℤ c)) c then (λ c1. if is_zero c then gives f else walk base (w *ℤ c) f)
+  walk_node at (power_of base e) w f = polynomial_sought e then (λ p. elim (constant_of p) as (λ _. TermSteps ProperTerm) [
+    | Some c ↦ within_limit Exponent (unsigned_abs (w *ℤ c)) c then (λ c1. if is_zero c then gives f else walk base (w *ℤ c) f)
     | None ↦ constant_sought base then (λ b. base_or_refused at b then (λ b1. form_or_refused 5 e (linear_form_of p) then (λ l.
         limited_exponent l then (λ l1. times_exponential at b1 l w f))))
   ])
@@ -135,7 +137,7 @@ abbrev mutual
   walk_node at node w f = node_polynomial_sought at node then (times_sought at w f)
 
   -- with the opposite power for a part that is divided by
-  pub walk_parts : Parts → ℤ → ProperTerm → Steps ProperTerm
+  pub walk_parts : Parts → ℤ → ProperTerm → TermSteps ProperTerm
   walk_parts no_parts w f = gives f
   walk_parts (part turned t parts) w f = walk t (part_power turned w) f then (λ g. walk_parts parts w g)
 
@@ -156,9 +158,9 @@ abbrev pub cancelled : ProperTerm → ProperTerm
 cancelled f = with_lists (without f.up (in_both f.up f.down)) (without f.down (in_both f.up f.down)) f.over (in_both f.up f.down) f
 
 -- the class of a tree
-abbrev pub class_of : Tree → Steps ProperTerm
+abbrev pub class_of : Tree → TermSteps ProperTerm
 class_of t = walk t (pos 1) unit_term then (λ f. gives (cancelled f))
 
 -- the class of a quotient of two trees
-abbrev pub class_of_quotient : Tree → Tree → Steps ProperTerm
+abbrev pub class_of_quotient : Tree → Tree → TermSteps ProperTerm
 class_of_quotient upper lower = walk upper (pos 1) unit_term then (λ f. walk lower (negsuc 0) f then (λ g. gives (cancelled g)))

@@ -7,22 +7,24 @@ use Rattle.hypergeometric.specs.Tree.{Tree}
 use Rattle.term_text.specs.View.{tree_of}
 use Rattle.term_text.specs.declared.ast.Ast.{Ast}
 use Rattle.term_text.proofs.Views.{tree_of-at}
-use Rattle.term_classes.specs.Steps.{Steps, of_number, makes, ◌then◌}
+use Rattle.steps.proofs.Leading.{leads, leads_on}
+use Rattle.steps.specs.Leads.{Leads}
+use Rattle.steps.specs.Operations.{of_number}
+use Rattle.steps.specs.Steps.{makes, ◌then◌}
+use Rattle.steps.specs.TermFaults.{Improper, TermSteps}
 use Rattle.term_classes.specs.Forms.{form_difference, difference_size, limited_form}
 use Rattle.term_classes.specs.Walk.{place_of, argument_sought, not_negative, with_factorial, times_binomial}
 use Rattle.term_walk.specs.WalkRows.{factorials_left, limits_left, difference_left}
-use Rattle.tree_polynomials.specs.Leads.{Leads}
-use Rattle.tree_polynomials.proofs.Leading.{leads, leads_on}
 use Rattle.term_walk.proofs.RowLeads.{limited_leads}
 
 -- the steps from the test of the second form on, and from that of the first on
-abbrev pub lower_left : ℕ → ℕ → LinearForm → LinearForm → ℤ → ProperTerm → Steps ProperTerm
+abbrev pub lower_left : ℕ → ℕ → LinearForm → LinearForm → ℤ → ProperTerm → TermSteps ProperTerm
 lower_left at lower_at l m w f = not_negative lower_at m then (λ m1. difference_left at l m w f)
 
-abbrev pub forms_left : ℕ → ℕ → ℕ → LinearForm → LinearForm → ℤ → ProperTerm → Steps ProperTerm
+abbrev pub forms_left : ℕ → ℕ → ℕ → LinearForm → LinearForm → ℤ → ProperTerm → TermSteps ProperTerm
 forms_left at upper_at lower_at l m w f = not_negative upper_at l then (λ l1. lower_left at lower_at l m w f)
 
-abbrev pub lower_sought : ℕ → Tree → Tree → LinearForm → ℤ → ProperTerm → Steps ProperTerm
+abbrev pub lower_sought : ℕ → Tree → Tree → LinearForm → ℤ → ProperTerm → TermSteps ProperTerm
 lower_sought at upper lower l w f = argument_sought lower then (λ m. forms_left at (place_of upper) (place_of lower) l m w f)
 
 pub upper_leads : (at : ℕ) (upper lower : Tree) (w : ℤ) (f : ProperTerm) (l : LinearForm) → (argument_sought upper).outcome ≡ Ok l
@@ -63,7 +65,7 @@ lower_kept at lower_at w f l m m1 e = leads (not_negative lower_at m) (λ m1. di
 
 -- from the difference on
 pub difference_leads : (at : ℕ) (w : ℤ) (f : ProperTerm) (l m d : LinearForm)
-    → (makes at (of_number (difference_size l m)) (form_difference l m)).outcome ≡ Ok d
+    → (makes {R = Improper} at (of_number (difference_size l m)) (form_difference l m)).outcome ≡ Ok d
     → Leads (difference_left at l m w f) (not_negative at d then (λ d1. limits_left l m d w f))
 difference_leads at w f l m d e =
     leads (makes at (of_number (difference_size l m)) (form_difference l m)) (λ d. not_negative at d then (λ d1. limits_left l m d w f)) d e
@@ -87,7 +89,7 @@ pub third_limited : (w : ℤ) (f : ProperTerm) (l m d d2 : LinearForm) → (limi
 third_limited w f l m d d2 e = limited_leads d d2 (λ d. factorials_left l m d w f) e
 
 -- the factorials of the first form, and of the second
-abbrev pub below_left : LinearForm → LinearForm → ℤ → ProperTerm → Steps ProperTerm
+abbrev pub below_left : LinearForm → LinearForm → ℤ → ProperTerm → TermSteps ProperTerm
 below_left m d w g = with_factorial m (neg_ℤ w) g then (λ h. with_factorial d (neg_ℤ w) h)
 
 pub above_leads : (w : ℤ) (f g : ProperTerm) (l m d : LinearForm) → (with_factorial l w f).outcome ≡ Ok g

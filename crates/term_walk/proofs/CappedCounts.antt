@@ -4,9 +4,11 @@ use Rattle.std.proofs.lemmas.Bool.{cases_lt}
 use Rattle.std.proofs.lemmas.Int.{ints, unsigned_abs-mul}
 use Rattle.std.proofs.Math.Nat.{mul-le-mul_left, mul_comm}
 use Rattle.std.specs.Prelude.{ℤ, pos, ◌*ℤ◌, unsigned_abs, Err}
-use Rattle.term_classes.specs.Refusals.{capped, exponent_limit, limit}
-use Rattle.term_classes.specs.Steps.{within_limit}
-use Rattle.term_classes.proofs.StepLaws.{limit_passed}
+use Rattle.steps.proofs.StepLaws.{limit_passed}
+use Rattle.steps.specs.Limits.{capped}
+use Rattle.steps.specs.Steps.{limit, limited}
+use Rattle.steps.specs.TermFaults.{Improper}
+use Rattle.steps.specs.declared.limits.LimitName.TheVariants.{Exponent}
 
 -- a capped count times a number of at least 1
 capped_product : (a b m : ℕ) → 1 ≤ b → min (min a m * b) m ≡ min (a * b) m
@@ -47,9 +49,9 @@ factor_small w c greatest h small =
 
 -- the limit of a constant exponent, from its count
 pub count_passed : (w c : ℤ) (counted : ℕ) → counted ≡ capped (unsigned_abs (w *ℤ c)) → 12 < counted
-    → (within_limit exponent_limit 12 (unsigned_abs (w *ℤ c)) c).outcome ≡ Err (limit exponent_limit counted)
+    → limited {R = Improper} Exponent (unsigned_abs (w *ℤ c)) c ≡ Err (limit Exponent counted)
 count_passed w c counted is above =
-    limit_passed exponent_limit 12 (unsigned_abs (w *ℤ c)) c (omega (arith, is, above)) ∙ ap (λ n. Err (limit exponent_limit n)) (sym is)
+    limit_passed Exponent (unsigned_abs (w *ℤ c)) c (omega (arith, is, above)) ∙ ap (λ n. Err (limit Exponent n)) (sym is)
 
 pub count_kept : (w c : ℤ) (counted : ℕ) → counted ≡ capped (unsigned_abs (w *ℤ c)) → counted ≤ 12 → unsigned_abs (w *ℤ c) ≤ 12
 count_kept w c counted is small = omega (arith, is, small)

@@ -9,40 +9,41 @@ use Rattle.hypergeometric.specs.Tree.{Tree}
 use Rattle.term_text.specs.View.{tree_of}
 use Rattle.term_text.specs.declared.ast.Ast.{Ast}
 use Rattle.term_classes.specs.Recurrence.{coefficients_sought, not_zero_at, first_not_zero, last_not_zero, recurrence_sought}
-use Rattle.term_classes.specs.Refusals.{order_limit}
-use Rattle.term_classes.specs.Steps.{Steps, gives, within_limit, ◌then◌}
-use Rattle.term_classes.proofs.StepLaws.{limit_kept}
-use Rattle.tree_polynomials.specs.Answers.{HasCause}
-use Rattle.term_faults.specs.declared.faults.TermFault.{TermFault}
-use Rattle.tree_polynomials.proofs.AnswerLaws.{first_cause, later_cause, later_outcome}
+use Rattle.steps.proofs.AnswerLaws.{first_cause, later_cause, later_outcome}
+use Rattle.steps.proofs.StepLaws.{limit_kept}
+use Rattle.steps.specs.Answers.{HasCause}
+use Rattle.steps.specs.Steps.{gives, within_limit, ◌then◌}
+use Rattle.steps.specs.TermFaults.{TermSteps, term_cause}
+use Rattle.steps.specs.declared.faults.TermFault.{TermFault}
+use Rattle.steps.specs.declared.limits.LimitName.TheVariants.{Order}
 use Rattle.std.proofs.lemmas.List.{length-map}
 use Rattle.term_walk.proofs.RecurrenceLaws.{polynomial_in_n}
 
 -- the tests of the first and of the last
 module _ (ts : List Tree) (few : length ts - 1 ≤ 6) where
-  abbrev from_coefficients : List Meaning → Steps (List Meaning)
+  abbrev from_coefficients : List Meaning → TermSteps (List Meaning)
   from_coefficients ps = first_not_zero ts ps then (λ _. last_not_zero ts ps)
 
-  pub coefficients_fault : (fault : TermFault) → HasCause (coefficients_sought ts) fault → HasCause (recurrence_sought ts) fault
+  pub coefficients_fault : (fault : TermFault) → HasCause (coefficients_sought ts) (term_cause fault) → HasCause (recurrence_sought ts) (term_cause fault)
   coefficients_fault fault h =
-      later_cause (within_limit order_limit 6 (length ts - 1) ts) (λ _. coefficients_sought ts then from_coefficients) ts fault
-      (limit_kept order_limit 6 (length ts - 1) ts few) (first_cause (coefficients_sought ts) from_coefficients fault h)
+      later_cause (within_limit Order (length ts - 1) ts) (λ _. coefficients_sought ts then from_coefficients) ts (term_cause fault)
+      (limit_kept Order (length ts - 1) ts few) (first_cause (coefficients_sought ts) from_coefficients (term_cause fault) h)
 
   module _ (ps : List Meaning) (found : (coefficients_sought ts).outcome ≡ Ok ps) where
-    tested : (fault : TermFault) → HasCause (from_coefficients ps) fault → HasCause (recurrence_sought ts) fault
+    tested : (fault : TermFault) → HasCause (from_coefficients ps) (term_cause fault) → HasCause (recurrence_sought ts) (term_cause fault)
     tested fault h =
-        later_cause (within_limit order_limit 6 (length ts - 1) ts) (λ _. coefficients_sought ts then from_coefficients) ts fault
-        (limit_kept order_limit 6 (length ts - 1) ts few) (later_cause (coefficients_sought ts) from_coefficients ps fault found h)
+        later_cause (within_limit Order (length ts - 1) ts) (λ _. coefficients_sought ts then from_coefficients) ts (term_cause fault)
+        (limit_kept Order (length ts - 1) ts few) (later_cause (coefficients_sought ts) from_coefficients ps (term_cause fault) found h)
 
-    pub last_fault : (fault : TermFault) → (first_not_zero ts ps).outcome ≡ Ok ps → HasCause (last_not_zero ts ps) fault
-        → HasCause (recurrence_sought ts) fault
-    last_fault fault first h = tested fault (later_cause (first_not_zero ts ps) (λ _. last_not_zero ts ps) ps fault first h)
+    pub last_fault : (fault : TermFault) → (first_not_zero ts ps).outcome ≡ Ok ps → HasCause (last_not_zero ts ps) (term_cause fault)
+        → HasCause (recurrence_sought ts) (term_cause fault)
+    last_fault fault first h = tested fault (later_cause (first_not_zero ts ps) (λ _. last_not_zero ts ps) ps (term_cause fault) first h)
 
     pub recurrence_found : (first_not_zero ts ps).outcome ≡ Ok ps → (last_not_zero ts ps).outcome ≡ Ok ps
         → (recurrence_sought ts).outcome ≡ Ok ps
     recurrence_found first last =
-        later_outcome (within_limit order_limit 6 (length ts - 1) ts) (λ _. coefficients_sought ts then from_coefficients) ts (Ok ps)
-        (limit_kept order_limit 6 (length ts - 1) ts few)
+        later_outcome (within_limit Order (length ts - 1) ts) (λ _. coefficients_sought ts then from_coefficients) ts (Ok ps)
+        (limit_kept Order (length ts - 1) ts few)
         (later_outcome (coefficients_sought ts) from_coefficients ps (Ok ps) found
         (later_outcome (first_not_zero ts ps) (λ _. last_not_zero ts ps) ps (Ok ps) first last))
 
@@ -57,17 +58,17 @@ first_kept_at (s ∷ ts) (q ∷ ps) t p h k e g o =
 
 -- the last tree and its polynomial
 pub last_cause_at : (ts : List Tree) (ps : List Meaning) (i : ℕ) (t : Tree) (p : Meaning) → length ts ≡ suc i → length ps ≡ suc i
-    → t ≡ get_or ts i t → p ≡ get_or ps i p → (fault : TermFault) → HasCause (not_zero_at t p) fault → HasCause (last_not_zero ts ps) fault
+    → t ≡ get_or ts i t → p ≡ get_or ps i p → (fault : TermFault) → HasCause (not_zero_at t p) (term_cause fault) → HasCause (last_not_zero ts ps) (term_cause fault)
 last_cause_at [] ps i t p h k e g fault c = absurd (omega (arith, h))
 last_cause_at (s ∷ ts) [] i t p h k e g fault c = absurd (omega (arith, k))
 last_cause_at (s ∷ []) (q ∷ []) zero t p h k e g fault c =
-    first_cause (not_zero_at s q) (λ _. gives (q ∷ [])) fault
-    (subst (λ x. HasCause (not_zero_at x q) fault) e (subst (λ x. HasCause (not_zero_at t x) fault) g c))
+    first_cause (not_zero_at s q) (λ _. gives (q ∷ [])) (term_cause fault)
+    (subst (λ x. HasCause (not_zero_at x q) (term_cause fault)) e (subst (λ x. HasCause (not_zero_at t x) (term_cause fault)) g c))
 last_cause_at (s ∷ []) (q ∷ []) (suc i) t p h k e g fault c = absurd (omega (arith, h))
 last_cause_at (s ∷ []) (q ∷ r ∷ ps) i t p h k e g fault c = absurd (omega (arith, h, k))
 last_cause_at (s ∷ u ∷ ts) (q ∷ ps) zero t p h k e g fault c = absurd (omega (arith, h))
 last_cause_at (s ∷ u ∷ ts) (q ∷ ps) (suc i) t p h k e g fault c =
-    first_cause (last_not_zero (u ∷ ts) ps) (λ qs. gives (q ∷ qs)) fault
+    first_cause (last_not_zero (u ∷ ts) ps) (λ qs. gives (q ∷ qs)) (term_cause fault)
     (last_cause_at (u ∷ ts) ps i t p (omega (arith, h)) (omega (arith, k)) e g fault c)
 
 pub last_kept_at : (ts : List Tree) (ps : List Meaning) (i : ℕ) (t : Tree) (p : Meaning) → length ts ≡ suc i → length ps ≡ suc i
@@ -126,8 +127,8 @@ module _ (trees : List Ast) (coefficients : List (Poly Whole ghosts)) (two : 2 �
   last_polynomial = mapped_at polynomial_in_n coefficients (length trees - 1) last_p (omega (arith, two, as_many)) last_coefficient_there
 
   -- the last is 0
-  pub last_refused : (fault : TermFault) → HasCause (not_zero_at (tree_of last_t) (polynomial_in_n last_p)) fault
-      → HasCause (recurrence_sought ts) fault
+  pub last_refused : (fault : TermFault) → HasCause (not_zero_at (tree_of last_t) (polynomial_in_n last_p)) (term_cause fault)
+      → HasCause (recurrence_sought ts) (term_cause fault)
   last_refused fault h = last_fault ts few_trees ps found fault first_kept
       (last_cause_at ts ps (length trees - 1) (tree_of last_t) (polynomial_in_n last_p) as_many_trees as_many_polynomials
       last_tree last_polynomial fault h)

@@ -15,7 +15,7 @@ use Rattle.term_classes.specs.Divisors.{lowest_terms, raised_fraction}
 use Rattle.term_classes.specs.Walk.{times_power}
 use Rattle.term_classes.proofs.LowestTerms.{raised_nonzero}
 use Rattle.term_classes.proofs.ReducedFractions.{HasLowestTerms, lowest_has_terms}
-use Rattle.term_classes.proofs.StepLaws.{same_Ok}
+use Rattle.steps.proofs.StepLaws.{same_Ok}
 
 pub has_terms : (f : RingFraction) → IsLowest f → HasLowestTerms (whole_fraction f)
 has_terms f h = record { positive = h.positive; coprime = h.coprime }

@@ -9,11 +9,12 @@ use Rattle.term_text.specs.declared.ast.Node.{Node}
 use Rattle.term_text.specs.declared.ast.Node.TheVariants.{Sum, Product}
 use Rattle.term_text.specs.declared.ast.Part.{Part}
 use Rattle.term_text.proofs.Views.{tree_of-at, part_of-at, node_of-sum, node_of-product}
-use Rattle.term_classes.specs.Steps.{Steps, ◌then◌}
+use Rattle.steps.specs.Answers.{Answers}
+use Rattle.steps.specs.Steps.{◌then◌}
+use Rattle.steps.specs.TermFaults.{TermSteps, term_cause}
+use Rattle.steps.specs.declared.faults.TermFault.{TermFault}
 use Rattle.term_classes.specs.Sought.{polynomial_sought}
 use Rattle.term_classes.specs.Walk.{place_of, times_sought, walk, walk_node, walk_parts}
-use Rattle.tree_polynomials.specs.Answers.{Answers}
-use Rattle.term_faults.specs.declared.faults.TermFault.{TermFault}
 use Rattle.term_walk.specs.declared.gathered.Gathered.{Gathered}
 use Rattle.term_walk.specs.Views.{gathered_of}
 use Rattle.term_walk.specs.WalkRows.{is_one_turned}
@@ -23,26 +24,26 @@ pub tree_with : (a : Ast) (node : Node) (n : d.Node) → a.node ≡ node → nod
 tree_with a node n e h = tree_of-at a ∙ ap (λ m. d.tree a.at (node_of m)) e ∙ ap (λ m. d.tree a.at m) h
 
 pub at_node : (a : Ast) (node : Node) (n : d.Node) (w : ℤ) (f : ProperTerm) (result : Result Gathered TermFault) → a.node ≡ node → node_of node ≡ n
-    → Answers gathered_of (walk_node a.at n w f) result → Answers gathered_of (walk (tree_of a) w f) result
-at_node a node n w f result e h known = subst (λ t. Answers gathered_of (walk t w f) result) (sym (tree_with a node n e h)) known
+    → Answers term_cause gathered_of (walk_node a.at n w f) result → Answers term_cause gathered_of (walk (tree_of a) w f) result
+at_node a node n w f result e h known = subst (λ t. Answers term_cause gathered_of (walk t w f) result) (sym (tree_with a node n e h)) known
 
 -- the row of what is sought as a polynomial
-abbrev pub sought : d.Tree → ℤ → ProperTerm → Steps ProperTerm
+abbrev pub sought : d.Tree → ℤ → ProperTerm → TermSteps ProperTerm
 sought t w f = polynomial_sought t then (times_sought (place_of t) w f)
 
 -- what is sought as a polynomial
 pub leaf_answer : (a : Ast) (node : Node) (n : d.Node) (w : ℤ) (f : ProperTerm) (result : Result Gathered TermFault) → a.node ≡ node
-    → node_of node ≡ n → sought (d.tree a.at n) w f ≡ walk_node a.at n w f → Answers gathered_of (sought (tree_of a) w f) result
-    → Answers gathered_of (walk (tree_of a) w f) result
+    → node_of node ≡ n → sought (d.tree a.at n) w f ≡ walk_node a.at n w f → Answers term_cause gathered_of (sought (tree_of a) w f) result
+    → Answers term_cause gathered_of (walk (tree_of a) w f) result
 leaf_answer a node n w f result e h same known = at_node a node n w f result e h
-    (subst (λ s. Answers gathered_of s result) same
-    (subst (λ t. Answers gathered_of (sought t w f) result) (tree_with a node n e h) known))
+    (subst (λ s. Answers term_cause gathered_of s result) same
+    (subst (λ t. Answers term_cause gathered_of (sought t w f) result) (tree_with a node n e h) known))
 
 -- the parts of a product
 pub product_answer : (a : Ast) (ps ps' : List Part) (w : ℤ) (f : ProperTerm) (result : Result Gathered TermFault) → a.node ≡ Product ps → ps' ≡ ps
-    → Answers gathered_of (walk_parts (parts_of ps') w f) result → Answers gathered_of (walk (tree_of a) w f) result
+    → Answers term_cause gathered_of (walk_parts (parts_of ps') w f) result → Answers term_cause gathered_of (walk (tree_of a) w f) result
 product_answer a ps ps' w f result e same known = at_node a (Product ps) (d.product_of (parts_of ps)) w f result e (node_of-product ps)
-    (subst (λ qs. Answers gathered_of (walk_parts (parts_of qs) w f) result) same known)
+    (subst (λ qs. Answers term_cause gathered_of (walk_parts (parts_of qs) w f) result) same known)
 
 -- exactly one part, which is turned
 pub some_part : (ps : List Part) → is_one_turned (parts_of ps) ≡ true → 1 ≤ length ps
@@ -79,6 +80,6 @@ plain_row at (d.part true t (d.part turned u parts)) w f h = refl
 plain_row at (d.part true t d.no_parts) w f h = cc
 
 pub plain_sum : (a : Ast) (ps : List Part) (w : ℤ) (f : ProperTerm) (result : Result Gathered TermFault) → a.node ≡ Sum ps
-    → is_one_turned (parts_of ps) ≡ false → Answers gathered_of (sought (tree_of a) w f) result → Answers gathered_of (walk (tree_of a) w f) result
+    → is_one_turned (parts_of ps) ≡ false → Answers term_cause gathered_of (sought (tree_of a) w f) result → Answers term_cause gathered_of (walk (tree_of a) w f) result
 plain_sum a ps w f result e plain known =
     leaf_answer a (Sum ps) (d.sum_of (parts_of ps)) w f result e (node_of-sum ps) (plain_row a.at (parts_of ps) w f plain) known

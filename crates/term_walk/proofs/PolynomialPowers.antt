@@ -11,13 +11,13 @@ use Rattle.hypergeometric.specs.ProperTerm.{ProperTerm}
 use Rattle.hypergeometric.specs.TreePolynomial.{in_n_and_k, poly_power}
 use Rattle.lin_form.specs.Products.{power_in, nonzero_magnitude, IsBound}
 use Rattle.term_classes.specs.Sought.{size_raised}
-use Rattle.term_classes.specs.Steps.{of_polynomial}
+use Rattle.steps.proofs.AnswerLaws.{ring_cause, made_too_large}
+use Rattle.steps.specs.Answers.{HasCause}
+use Rattle.steps.specs.Operations.{of_polynomial}
+use Rattle.steps.specs.TermFaults.{fault_of, term_cause}
 use Rattle.term_classes.specs.Walk.{with_poly, times_polynomial}
 use Rattle.term_classes.proofs.PassingPolynomials.{Belongs, power_belongs, product_not_nought, power_not_nought}
 use Rattle.term_classes.proofs.VaryingForms.{IsVarying, varying_not_nought}
-use Rattle.term_faults.specs.Faults.{fault_of}
-use Rattle.tree_polynomials.specs.Answers.{HasCause}
-use Rattle.tree_polynomials.proofs.AnswerLaws.{ring_cause, made_too_large}
 
 -- a power in the polynomials is the power of a polynomial
 pub power_same : (p : Meaning) (e : ℕ) → power_in in_n_and_k p e ≡ poly_power p e
@@ -55,9 +55,8 @@ module _ (m : Meaning) (belongs : Belongs m) (some : m ≢ in_n_and_k.nought) wh
 pub power_fault : (at : ℕ) (p : Meaning) (e : ℕ) (f : ProperTerm) → Belongs f.poly → f.poly ≢ in_n_and_k.nought → (fault : RingFault)
     → OnFault ((b : Passing (level 2)) → IsBound (level 2) b f.poly
     → ¬ in_n_and_k.Fits (in_n_and_k.product b.0 (power_in in_n_and_k (nonzero_magnitude in_n_and_k p) e))) fault
-    → HasCause (times_polynomial at p (pos e) f) (fault_of at fault)
+    → HasCause (times_polynomial at p (pos e) f) (term_cause (fault_of at fault))
 power_fault at p e f belongs some fault h =
     ring_cause (times_polynomial at p (pos e) f) at _ fault h
     (λ out. made_too_large at (of_polynomial (in_n_and_k.product (in_n_and_k.magnitude f.poly) (size_raised p e)))
-    (with_poly (in_n_and_k.product f.poly (poly_power p e)) f)
     (out (in_n_and_k.magnitude f.poly, laws.closed.magnitude (f.poly, belongs)) (size_bounds f.poly belongs some)))

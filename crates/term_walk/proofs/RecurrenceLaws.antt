@@ -9,16 +9,16 @@ use Rattle.hypergeometric.specs.Tree.{Tree}
 use Rattle.term_text.specs.View.{tree_of}
 use Rattle.term_text.specs.declared.ast.Ast.{Ast}
 use Rattle.term_classes.specs.Recurrence.{place_of_k, polynomial_or_refused, coefficient_sought, coefficients_sought}
-use Rattle.term_classes.specs.Refusals.{improper}
+use Rattle.steps.proofs.AnswerLaws.{first_cause, later_cause, later_outcome}
+use Rattle.steps.specs.Answers.{HasCause}
+use Rattle.steps.specs.Steps.{gives, refuses, ◌then◌}
+use Rattle.steps.specs.TermFaults.{improper, TermSteps, term_cause}
+use Rattle.steps.specs.declared.faults.TermFault.{TermFault}
 use Rattle.term_classes.specs.Sought.{polynomial_sought}
-use Rattle.term_classes.specs.Steps.{Steps, gives, refuses, ◌then◌}
-use Rattle.tree_polynomials.specs.Answers.{HasCause}
-use Rattle.term_faults.specs.declared.faults.TermFault.{TermFault}
-use Rattle.tree_polynomials.proofs.AnswerLaws.{first_cause, later_cause, later_outcome}
 
 -- what is done by the place of a k
-abbrev by_place : Tree → Option ℕ → Steps Meaning
-by_place t place = elim place as (λ _. Steps Meaning) [
+abbrev by_place : Tree → Option ℕ → TermSteps Meaning
+by_place t place = elim place as (λ _. TermSteps Meaning) [
   | Some at ↦ refuses (improper 8 at)
   | None ↦ polynomial_sought t then (polynomial_or_refused t)
 ]
@@ -37,8 +37,8 @@ pub record LeadsOn (trees : List Ast) (i : ℕ) (found : List (Poly Whole ghosts
   pub as_many : length found ≡ i
   pub gives : (more : List Meaning) → (coefficients_sought (map tree_of (drop i trees))).outcome ≡ Ok more
       → (coefficients_sought (map tree_of trees)).outcome ≡ Ok (map polynomial_in_n found ++ more)
-  pub faults : (fault : TermFault) → HasCause (coefficients_sought (map tree_of (drop i trees))) fault
-      → HasCause (coefficients_sought (map tree_of trees)) fault
+  pub faults : (fault : TermFault) → HasCause (coefficients_sought (map tree_of (drop i trees))) (term_cause fault)
+      → HasCause (coefficients_sought (map tree_of trees)) (term_cause fault)
 
 -- the trees from a place on are the tree there and those after it
 from_place : (trees : List Ast) (i : ℕ) (t : Ast) → i < length trees → t ≡ get_or trees i t → drop i trees ≡ t ∷ drop (i + 1) trees
@@ -68,10 +68,10 @@ module _ (trees : List Ast) (i : ℕ) (t : Ast) (below : i < length trees) (is :
   here : coefficients_sought (map tree_of (drop i trees)) ≡ coefficients_sought (tree_of t ∷ rest)
   here = ap (λ ts. coefficients_sought (map tree_of ts)) (from_place trees i t below is)
 
-  pub coefficient_fault : (fault : TermFault) → HasCause (coefficient_sought (tree_of t)) fault
-      → HasCause (coefficients_sought (map tree_of trees)) fault
-  coefficient_fault fault h = leads.faults fault (subst (λ s. HasCause s fault) (sym here)
-      (first_cause (coefficient_sought (tree_of t)) (λ p. coefficients_sought rest then (λ ps. gives (p ∷ ps))) fault h))
+  pub coefficient_fault : (fault : TermFault) → HasCause (coefficient_sought (tree_of t)) (term_cause fault)
+      → HasCause (coefficients_sought (map tree_of trees)) (term_cause fault)
+  coefficient_fault fault h = leads.faults fault (subst (λ s. HasCause s (term_cause fault)) (sym here)
+      (first_cause (coefficient_sought (tree_of t)) (λ p. coefficients_sought rest then (λ ps. gives (p ∷ ps))) (term_cause fault) h))
 
   pub leads_more : (p : Poly Whole ghosts) → (coefficient_sought (tree_of t)).outcome ≡ Ok (polynomial_in_n p)
       → LeadsOn trees (i + 1) (found ++ p ∷ [])
@@ -82,9 +82,9 @@ module _ (trees : List Ast) (i : ℕ) (t : Ast) (below : i < length trees) (is :
         (Ok (polynomial_in_n p ∷ more)) e
         (later_outcome (coefficients_sought rest) (λ ps. gives (polynomial_in_n p ∷ ps)) more (Ok (polynomial_in_n p ∷ more)) h refl))
         ∙ ap Ok (moved found p more);
-    faults = λ fault h. leads.faults fault (subst (λ s. HasCause s fault) (sym here)
-        (later_cause (coefficient_sought (tree_of t)) (λ p. coefficients_sought rest then (λ ps. gives (p ∷ ps))) (polynomial_in_n p) fault e
-        (first_cause (coefficients_sought rest) (λ ps. gives (polynomial_in_n p ∷ ps)) fault h)));
+    faults = λ fault h. leads.faults fault (subst (λ s. HasCause s (term_cause fault)) (sym here)
+        (later_cause (coefficient_sought (tree_of t)) (λ p. coefficients_sought rest then (λ ps. gives (p ∷ ps))) (polynomial_in_n p) (term_cause fault) e
+        (first_cause (coefficients_sought rest) (λ ps. gives (polynomial_in_n p ∷ ps)) (term_cause fault) h)));
   }
 
 all_dropped : (trees : List Ast) (i : ℕ) → length trees ≤ i → drop i trees ≡ []

@@ -7,18 +7,19 @@ use Rattle.hypergeometric.specs.TreeValue.{part_power}
 use Rattle.term_text.specs.View.{tree_of, parts_of}
 use Rattle.term_text.specs.declared.ast.Part.{Part}
 use Rattle.term_classes.specs.Walk.{walk, walk_parts}
-use Rattle.tree_polynomials.specs.Answers.{HasCause}
-use Rattle.term_faults.specs.declared.faults.TermFault.{TermFault}
-use Rattle.tree_polynomials.proofs.AnswerLaws.{first_cause}
+use Rattle.steps.proofs.AnswerLaws.{first_cause}
+use Rattle.steps.proofs.Leading.{leads}
+use Rattle.steps.specs.Answers.{HasCause}
+use Rattle.steps.specs.Leads.{Leads}
+use Rattle.steps.specs.TermFaults.{term_cause}
+use Rattle.steps.specs.declared.faults.TermFault.{TermFault}
 use Rattle.tree_polynomials.proofs.NextParts.{next_part}
-use Rattle.tree_polynomials.specs.Leads.{Leads}
-use Rattle.tree_polynomials.proofs.Leading.{leads}
 
 -- a fault in the next part
 pub part_refused : (ps : List Part) (i : ℕ) (p : Part) (w : ℤ) (f : ProperTerm) (x : TermFault) → i < length ps → p ≡ get_or ps i p
-    → HasCause (walk (tree_of p.ast) (part_power p.turned w) f) x → HasCause (walk_parts (parts_of (drop i ps)) w f) x
-part_refused ps i p w f x below is h = subst (λ parts. HasCause (walk_parts parts w f) x) (sym (next_part ps i p below is))
-    (first_cause (walk (tree_of p.ast) (part_power p.turned w) f) (λ g. walk_parts (parts_of (drop (i + 1) ps)) w g) x h)
+    → HasCause (walk (tree_of p.ast) (part_power p.turned w) f) (term_cause x) → HasCause (walk_parts (parts_of (drop i ps)) w f) (term_cause x)
+part_refused ps i p w f x below is h = subst (λ parts. HasCause (walk_parts parts w f) (term_cause x)) (sym (next_part ps i p below is))
+    (first_cause (walk (tree_of p.ast) (part_power p.turned w) f) (λ g. walk_parts (parts_of (drop (i + 1) ps)) w g) (term_cause x) h)
 
 -- past the next part
 pub part_leads : (ps : List Part) (i : ℕ) (p : Part) (w : ℤ) (f g : ProperTerm) → i < length ps → p ≡ get_or ps i p

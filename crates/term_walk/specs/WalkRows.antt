@@ -5,12 +5,14 @@ use Rattle.hypergeometric.specs.LinearForm.{LinearForm}
 use Rattle.hypergeometric.specs.ProperTerm.{ProperTerm}
 use Rattle.hypergeometric.specs.Tree.{Tree, Parts, no_parts, part}
 use Rattle.hypergeometric.specs.TreePolynomial.{constant_of}
-use Rattle.term_classes.specs.Refusals.{exponent_limit}
-use Rattle.term_classes.specs.Steps.{Steps, of_number, gives, makes, within_limit, ◌then◌}
+use Rattle.steps.specs.Found.{found}
+use Rattle.steps.specs.Operations.{of_number}
+use Rattle.steps.specs.Steps.{gives, makes, within_limit, ◌then◌}
+use Rattle.steps.specs.TermFaults.{TermSteps}
+use Rattle.steps.specs.declared.limits.LimitName.TheVariants as counts
 use Rattle.term_classes.specs.Forms.{is_zero, linear_form_of, form_difference, difference_size, limited_form, limited_exponent}
 use Rattle.term_classes.specs.Sought.{polynomial_sought, constant_sought}
 use Rattle.term_classes.specs.Walk as w
-use Rattle.tree_polynomials.specs.Views.{found}
 use Rattle.term_walk.specs.Views.{wide_form_of}
 use Rattle.term_walk.specs.declared.exponents.Exponent.{Exponent}
 use Rattle.term_walk.specs.declared.exponents.Exponent.TheVariants as code
@@ -30,13 +32,13 @@ abbrev pub constant_kind : ℤ → ℤ → ExponentKind
 constant_kind power c = if is_zero c then zero_exponent else constant (power *ℤ c)
 
 -- the limit of a constant exponent counts it times the power of the walk
-abbrev pub exponent_told : ℤ → Option Meaning → Steps ExponentKind
-exponent_told power p = elim (constant_of p) as (λ _. Steps ExponentKind) [
-  | Some c ↦ within_limit exponent_limit 12 (unsigned_abs (power *ℤ c)) (constant_kind power c)
+abbrev pub exponent_told : ℤ → Option Meaning → TermSteps ExponentKind
+exponent_told power p = elim (constant_of p) as (λ _. TermSteps ExponentKind) [
+  | Some c ↦ within_limit counts.Exponent (unsigned_abs (power *ℤ c)) (constant_kind power c)
   | None ↦ gives (varying (linear_form_of p))
 ]
 
-abbrev pub exponent_sought : Tree → ℤ → Steps ExponentKind
+abbrev pub exponent_sought : Tree → ℤ → TermSteps ExponentKind
 exponent_sought t power = polynomial_sought t then (exponent_told power)
 
 -- exactly one part, which is turned
@@ -45,24 +47,24 @@ is_one_turned (part true t no_parts) = true
 is_one_turned parts = false
 
 -- a power whose exponent is no constant
-abbrev pub exponential_left : ℕ → Tree → Tree → Option LinearForm → ℤ → ProperTerm → Steps ProperTerm
+abbrev pub exponential_left : ℕ → Tree → Tree → Option LinearForm → ℤ → ProperTerm → TermSteps ProperTerm
 exponential_left at base e form power f = constant_sought base then (λ b. w.base_or_refused at b then (λ b1.
     w.form_or_refused 5 e form then (λ l. limited_exponent l then (λ l1. w.times_exponential at b1 l power f))))
 
-abbrev pub power_left : ℕ → Tree → Tree → ℤ → ProperTerm → ExponentKind → Steps ProperTerm
+abbrev pub power_left : ℕ → Tree → Tree → ℤ → ProperTerm → ExponentKind → TermSteps ProperTerm
 power_left at base e power f zero_exponent = gives f
 power_left at base e power f (constant c) = w.walk base c f
 power_left at base e power f (varying form) = exponential_left at base e form power f
 
 -- a binomial coefficient, once its two forms are found and are no negative numbers; once their difference is found, and is none either; and
 -- once all three are within the limits
-abbrev pub factorials_left : LinearForm → LinearForm → LinearForm → ℤ → ProperTerm → Steps ProperTerm
+abbrev pub factorials_left : LinearForm → LinearForm → LinearForm → ℤ → ProperTerm → TermSteps ProperTerm
 factorials_left l m d power f = w.with_factorial l power f then (λ g. w.with_factorial m (neg_ℤ power) g then (λ h.
     w.with_factorial d (neg_ℤ power) h))
 
-abbrev pub limits_left : LinearForm → LinearForm → LinearForm → ℤ → ProperTerm → Steps ProperTerm
+abbrev pub limits_left : LinearForm → LinearForm → LinearForm → ℤ → ProperTerm → TermSteps ProperTerm
 limits_left l m d power f = limited_form l then (λ l2. limited_form m then (λ m2. limited_form d then (λ d2. factorials_left l m d power f)))
 
-abbrev pub difference_left : ℕ → LinearForm → LinearForm → ℤ → ProperTerm → Steps ProperTerm
+abbrev pub difference_left : ℕ → LinearForm → LinearForm → ℤ → ProperTerm → TermSteps ProperTerm
 difference_left at l m power f = makes at (of_number (difference_size l m)) (form_difference l m) then
     (λ d. w.not_negative at d then (λ d1. limits_left l m d power f))

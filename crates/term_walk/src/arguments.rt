@@ -3,19 +3,20 @@
 ghost use Rattle.std.specs.Prelude.{◌≡◌};
 ghost use Rattle.term_text.specs.View.{tree_of};
 ghost use Rattle.term_classes.specs.Walk.{argument_sought, form_or_refused, not_negative};
-ghost use Rattle.tree_polynomials.specs.Answers.{Answers};
-ghost use Rattle.tree_polynomials.specs.Views.{found};
+ghost use Rattle.steps.specs.Answers.{Answers};
+ghost use Rattle.steps.specs.Found.{found};
+ghost use Rattle.steps.specs.TermFaults.{term_cause};
 ghost use Rattle.term_walk.specs.Views.{wide_form_of};
 
 use crate::wide_forms::{WideForm, is_negative_number, linear_form};
 use std::alloc::Global;
-use term_faults::TermFault;
+use steps::TermFault;
 use term_text::Ast;
 use tree_polynomials::polynomial_of_tree;
 
 // The linear form that the tree of an argument is.
 pub(crate) fn argument_of_tree(alloc: Global, tree: &Ast) -> Result<WideForm, TermFault>
-    ensures answers { Answers wide_form_of (argument_sought (tree_of tree.now)) result }
+    ensures answers { Answers term_cause wide_form_of (argument_sought (tree_of tree.now)) result }
 {
     let polynomial = polynomial_of_tree(alloc, tree)?;
     form_of_tree(1, tree, linear_form(&polynomial))
@@ -27,7 +28,7 @@ pub(crate) fn form_of_tree(
     tree: &Ast,
     form: Option<WideForm>,
 ) -> Result<WideForm, TermFault>
-    ensures answers { Answers wide_form_of (form_or_refused reason (tree_of tree.now) (found wide_form_of form)) result }
+    ensures answers { Answers term_cause wide_form_of (form_or_refused reason (tree_of tree.now) (found wide_form_of form)) result }
 {
     match form {
         Some(form) => Ok(form),
@@ -40,7 +41,7 @@ pub(crate) fn form_of_tree(
 
 // The argument, unless it is a negative number.
 pub(crate) fn not_negative_number(at: u32, form: WideForm) -> Result<WideForm, TermFault>
-    ensures answers { Answers wide_form_of (not_negative at (wide_form_of form)) result }
+    ensures answers { Answers term_cause wide_form_of (not_negative at (wide_form_of form)) result }
 {
     if is_negative_number(form) {
         return Err(TermFault::Improper { reason: 2, at });

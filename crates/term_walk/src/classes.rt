@@ -8,9 +8,10 @@ ghost use Rattle.term_text.specs.View.{tree_of};
 ghost use Rattle.proper_term.specs.TermOf.{term_of};
 ghost use Rattle.term_classes.specs.ClassBounds.{IsTermInBounds};
 ghost use Rattle.term_classes.specs.ClassValues.{HasValue, quotient_value};
-ghost use Rattle.term_classes.specs.Steps.{gives};
+ghost use Rattle.steps.specs.Answers.{Answers};
+ghost use Rattle.steps.specs.Steps.{gives};
+ghost use Rattle.steps.specs.TermFaults.{term_cause};
 ghost use Rattle.term_classes.specs.Walk.{cancelled, class_of, class_of_quotient};
-ghost use Rattle.tree_polynomials.specs.Answers.{Answers};
 ghost use Rattle.term_walk.specs.Views.{gathered_of};
 
 use crate::cancelling_forms::{other_forms, shared_forms};
@@ -20,13 +21,13 @@ use crate::gathered_polynomials::nothing_gathered;
 use crate::walk::walk_tree;
 use proper_term::Proper;
 use std::alloc::Global;
-use term_faults::TermFault;
+use steps::TermFault;
 use term_text::Ast;
 
 // What was gathered, with the factorials that stand above and below cancelled, and guarded.
 fn cancelled_term(alloc: Global, gathered: Gathered) -> Result<Proper, TermFault>
     requires plain { IsTermInBounds (gathered_of gathered) → IsPlain (cancelled (gathered_of gathered)) }
-    ensures answers { Answers term_of (gives (cancelled (gathered_of gathered))) result }
+    ensures answers { Answers term_cause term_of (gives (cancelled (gathered_of gathered))) result }
     ensures plain { IfOk result (λ term. IsPlain (term_of term)) }
 {
     let Gathered {
@@ -56,7 +57,7 @@ fn cancelled_term(alloc: Global, gathered: Gathered) -> Result<Proper, TermFault
 ///
 /// The term is plain. At all whole n and k it is defined exactly where the tree's own value is, and equal to it there.
 pub fn classify(alloc: Global, tree: &Ast) -> Result<Proper, TermFault>
-    ensures class { Answers term_of (class_of (tree_of tree.now)) result }
+    ensures class { Answers term_cause term_of (class_of (tree_of tree.now)) result }
     ensures value { IfOk result (λ term. HasValue (term_of term) (term_value (tree_of tree.now))) }
     ensures plain { IfOk result (λ term. IsPlain (term_of term)) }
 {
@@ -70,7 +71,7 @@ pub fn classify(alloc: Global, tree: &Ast) -> Result<Proper, TermFault>
 /// The term is plain. At all whole n and k it is defined exactly where the value of the first tree times that of the second to the
 /// power -1 is, and equal to it there.
 pub fn classify_quotient(alloc: Global, top: &Ast, bottom: &Ast) -> Result<Proper, TermFault>
-    ensures class { Answers term_of (class_of_quotient (tree_of top.now) (tree_of bottom.now)) result }
+    ensures class { Answers term_cause term_of (class_of_quotient (tree_of top.now) (tree_of bottom.now)) result }
     ensures value { IfOk result (λ term. HasValue (term_of term) (quotient_value (tree_of top.now) (tree_of bottom.now))) }
     ensures plain { IfOk result (λ term. IsPlain (term_of term)) }
 {

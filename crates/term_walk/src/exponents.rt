@@ -3,11 +3,12 @@
 ghost use Rattle.std.specs.Prelude.{◌≡◌, ◌≢◌, ◌≤◌, ◌*ℤ◌, pos, unsigned_abs};
 ghost use Rattle.hypergeometric.specs.TreePolynomial.{constant_of};
 ghost use Rattle.term_text.specs.View.{tree_of};
-ghost use Rattle.term_classes.specs.Refusals.{exponent_limit};
-ghost use Rattle.term_classes.specs.Steps.{within_limit};
+ghost use Rattle.steps.specs.Answers.{Answers};
+ghost use Rattle.steps.specs.Found.{found};
+ghost use Rattle.steps.specs.Steps.{within_limit};
+ghost use Rattle.steps.specs.TermFaults.{term_cause};
 ghost use Rattle.term_classes.specs.Walk.{base_or_refused};
-ghost use Rattle.tree_polynomials.specs.Answers.{Answers};
-ghost use Rattle.tree_polynomials.specs.Views.{found, fraction_value, whole_value};
+ghost use Rattle.tree_polynomials.specs.Views.{fraction_value, whole_value};
 ghost use Rattle.term_walk.specs.Views.{gathered_of, wide_form_of};
 ghost use Rattle.term_walk.specs.WalkRows.{constant_kind, exponent_of, exponent_sought, exponential_left};
 
@@ -19,7 +20,7 @@ use poly_fraction::Frac;
 use poly_generic::Znk;
 use ring_laws::{Ring, Whole};
 use std::alloc::Global;
-use term_faults::{LimitName, TermFault};
+use steps::{LimitName, TermFault};
 use term_text::Ast;
 use tree_polynomials::{capped_magnitude, constant_of, constant_of_tree, polynomial_of_tree};
 
@@ -40,7 +41,7 @@ pub(crate) fn kind_of_exponent(
     exponent: &Ast,
     power: WalkPower,
 ) -> Result<Exponent, TermFault>
-    ensures answers { Answers exponent_of (exponent_sought (tree_of exponent.now) power.value) result }
+    ensures answers { Answers term_cause exponent_of (exponent_sought (tree_of exponent.now) power.value) result }
 {
     let polynomial = polynomial_of_tree(alloc, exponent)?;
     match number_of(&polynomial) {
@@ -79,7 +80,7 @@ fn number_of(polynomial: &Option<Znk>) -> Option<Whole>
 fn exponent_within_limit(power: i64, constant: Whole) -> Result<i64, TermFault>
     requires not_zero { power ≢ pos 0 }
     requires small { unsigned_abs power ≤ 12 }
-    ensures answers { Answers (λ c. c) (within_limit exponent_limit 12 (unsigned_abs (power *ℤ constant.value)) constant.value) result }
+    ensures answers { Answers term_cause (λ c. c) (within_limit LimitName.Exponent (unsigned_abs (power *ℤ constant.value)) constant.value) result }
 {
     let counted = capped_magnitude(constant).saturating_mul(power.unsigned_abs());
     if counted > 12 {
@@ -102,7 +103,7 @@ pub(crate) fn times_exponential_of(
     gathered: Gathered,
 ) -> Result<Gathered, TermFault>
     requires small { unsigned_abs power ≤ 12 }
-    ensures answers { Answers gathered_of (exponential_left at (tree_of base.now) (tree_of exponent.now)
+    ensures answers { Answers term_cause gathered_of (exponential_left at (tree_of base.now) (tree_of exponent.now)
         (found wide_form_of form) power (gathered_of gathered)) result }
 {
     let constant = constant_of_tree(alloc, base)?;
@@ -114,7 +115,7 @@ pub(crate) fn times_exponential_of(
 
 // The constant of a base, unless there is none or it is 0.
 fn base_of_constant(at: u32, constant: Option<Frac<Whole>>) -> Result<Frac<Whole>, TermFault>
-    ensures answers { Answers fraction_value (base_or_refused at (found fraction_value constant)) result }
+    ensures answers { Answers term_cause fraction_value (base_or_refused at (found fraction_value constant)) result }
 {
     match constant {
         Some(base) => {

@@ -5,7 +5,8 @@ ghost use Rattle.hypergeometric.specs.Tree.{tree, factorial_of};
 ghost use Rattle.lin_form.specs.Forms.{form_of};
 ghost use Rattle.term_text.specs.View.{tree_of};
 ghost use Rattle.term_classes.specs.Walk.{times_binomial, walk};
-ghost use Rattle.tree_polynomials.specs.Answers.{Answers};
+ghost use Rattle.steps.specs.Answers.{Answers};
+ghost use Rattle.steps.specs.TermFaults.{term_cause};
 ghost use Rattle.term_walk.specs.Views.{gathered_of, wide_form_of};
 ghost use Rattle.term_walk.specs.WalkRows.{difference_left, factorials_left, limits_left};
 
@@ -14,7 +15,7 @@ use crate::gathered::Gathered;
 use crate::wide_forms::{WideForm, difference, within_limits};
 use lin_form::LinForm;
 use std::alloc::Global;
-use term_faults::TermFault;
+use steps::TermFault;
 use term_text::Ast;
 
 // What was gathered, times the factorial of an argument to a power. The place of the factorial plays no part.
@@ -26,7 +27,7 @@ pub(crate) fn times_factorial_of(
 ) -> Result<Gathered, TermFault>
     requires not_zero { power ≢ pos 0 }
     requires small { unsigned_abs power ≤ 12 }
-    ensures answers { (at : ℕ) → Answers gathered_of (walk (tree at (factorial_of (tree_of argument.now))) power (gathered_of gathered)) result }
+    ensures answers { (at : ℕ) → Answers term_cause gathered_of (walk (tree at (factorial_of (tree_of argument.now))) power (gathered_of gathered)) result }
 {
     let form = argument_of_tree(alloc, argument)?;
     not_negative_number(argument.at, form)?;
@@ -45,7 +46,7 @@ pub(crate) fn times_binomial_of(
 ) -> Result<Gathered, TermFault>
     requires not_zero { power ≢ pos 0 }
     requires small { unsigned_abs power ≤ 12 }
-    ensures answers { Answers gathered_of (times_binomial at (tree_of upper.now) (tree_of lower.now) power (gathered_of gathered)) result }
+    ensures answers { Answers term_cause gathered_of (times_binomial at (tree_of upper.now) (tree_of lower.now) power (gathered_of gathered)) result }
 {
     let upper_form = argument_of_tree(alloc, upper)?;
     let lower_form = argument_of_tree(alloc, lower)?;
@@ -65,7 +66,7 @@ fn times_two_forms(
 ) -> Result<Gathered, TermFault>
     requires not_zero { power ≢ pos 0 }
     requires small { unsigned_abs power ≤ 12 }
-    ensures answers { Answers gathered_of (difference_left at (wide_form_of upper) (wide_form_of lower) power (gathered_of gathered)) result }
+    ensures answers { Answers term_cause gathered_of (difference_left at (wide_form_of upper) (wide_form_of lower) power (gathered_of gathered)) result }
 {
     let between = difference(alloc, at, upper, lower)?;
     not_negative_number(at, between)?;
@@ -82,7 +83,7 @@ fn times_three_forms(
 ) -> Result<Gathered, TermFault>
     requires not_zero { power ≢ pos 0 }
     requires small { unsigned_abs power ≤ 12 }
-    ensures answers { Answers gathered_of (limits_left (wide_form_of upper) (wide_form_of lower) (wide_form_of between) power
+    ensures answers { Answers term_cause gathered_of (limits_left (wide_form_of upper) (wide_form_of lower) (wide_form_of between) power
         (gathered_of gathered)) result }
 {
     let above = within_limits(upper)?;
@@ -101,7 +102,7 @@ fn times_three_factorials(
 ) -> Result<Gathered, TermFault>
     requires not_zero { power ≢ pos 0 }
     requires small { unsigned_abs power ≤ 12 }
-    ensures answers { Answers gathered_of (factorials_left (form_of above) (form_of below) (form_of also_below) power
+    ensures answers { Answers term_cause gathered_of (factorials_left (form_of above) (form_of below) (form_of also_below) power
         (gathered_of gathered)) result }
 {
     let once = gathered.with_factorial(above, power)?;

@@ -8,7 +8,7 @@ ghost use Rattle.lin_form.specs.ListOf.{list_of};
 
 use lin_form::{FactorList, LinForm};
 use std::alloc::Global;
-use term_faults::{LimitName, TermFault};
+use steps::{LimitName, TermFault};
 
 /// Forms whose factorials stand above and below, and forms that the rest is divided by: at most 24 by their powers.
 ///
@@ -61,9 +61,10 @@ impl Factors {
     ghost use Rattle.lin_form.specs.Forms.{form_of};
     ghost use Rattle.lin_form.specs.FactorLists.{with_factor};
     ghost use Rattle.lin_form.specs.ListOf.{list_of};
-    ghost use Rattle.term_classes.specs.Steps.{gives};
+    ghost use Rattle.steps.specs.Answers.{Answers};
+    ghost use Rattle.steps.specs.Steps.{gives};
+    ghost use Rattle.steps.specs.TermFaults.{term_cause};
     ghost use Rattle.term_classes.specs.Walk.{with_lists, few_factors, with_factorial};
-    ghost use Rattle.tree_polynomials.specs.Answers.{Answers};
     ghost use Rattle.term_walk.specs.Views.{with_factors};
 
     // No factor.

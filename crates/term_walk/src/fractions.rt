@@ -4,7 +4,8 @@ ghost use Rattle.std.specs.Prelude.{◌≡◌, ◌≢◌, ◌≤◌, pos, ◌*�
 ghost use Rattle.hypergeometric.specs.Fraction.{of_whole, fraction_negative};
 ghost use Rattle.lin_form.specs.Forms.{form_of};
 ghost use Rattle.term_classes.specs.Walk.{times_number, times_exponential};
-ghost use Rattle.tree_polynomials.specs.Answers.{Answers};
+ghost use Rattle.steps.specs.Answers.{Answers};
+ghost use Rattle.steps.specs.TermFaults.{term_cause};
 ghost use Rattle.tree_polynomials.specs.Views.{fraction_value};
 ghost use Rattle.term_walk.specs.Views.{gathered_of};
 
@@ -13,7 +14,7 @@ use lin_form::LinForm;
 use poly_fraction::Frac;
 use ring_laws::Whole;
 use std::alloc::Global;
-use term_faults::TermFault;
+use steps::TermFault;
 use tree_polynomials::times_power_of;
 
 // The number as a fraction.
@@ -53,7 +54,7 @@ impl Gathered {
         power: i64,
     ) -> Result<Gathered, TermFault>
         requires small { unsigned_abs power ≤ 12 }
-        ensures answers { Answers gathered_of (times_number at number.value power (gathered_of self)) result }
+        ensures answers { Answers term_cause gathered_of (times_number at number.value power (gathered_of self)) result }
     {
         if number.value() == 0 {
             let reason = if power < 0 { 3 } else { 7 };
@@ -88,7 +89,7 @@ impl Gathered {
         requires base_not_zero { (fraction_value base.now).top ≢ pos 0 }
         requires small { unsigned_abs power ≤ 12 }
         requires small_exponent { unsigned_abs (form_of exponent).offset ≤ 12 }
-        ensures answers { Answers gathered_of (times_exponential at (fraction_value base.now) (form_of exponent) power (gathered_of self)) result }
+        ensures answers { Answers term_cause gathered_of (times_exponential at (fraction_value base.now) (form_of exponent) power (gathered_of self)) result }
     {
         let Gathered {
             poly,

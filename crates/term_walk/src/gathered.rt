@@ -13,7 +13,7 @@ use poly_fraction::Frac;
 use poly_generic::Znk;
 use ring_laws::{Ring, Whole};
 use std::alloc::Global;
-use term_faults::TermFault;
+use steps::TermFault;
 use tree_polynomials::times_power_of;
 
 /// The fields of a term, but for the guard, which stays empty until factorials are cancelled.
@@ -36,7 +36,8 @@ impl Gathered {
     ghost use Rattle.lin_form.specs.Forms.{form_of, form_with};
     ghost use Rattle.term_classes.specs.Divisors.{lowest_terms, raised_fraction};
     ghost use Rattle.term_classes.specs.Walk.{with_scale, with_factorial, with_denominator};
-    ghost use Rattle.tree_polynomials.specs.Answers.{Answers};
+    ghost use Rattle.steps.specs.Answers.{Answers};
+    ghost use Rattle.steps.specs.TermFaults.{term_cause};
     ghost use Rattle.term_walk.specs.Views.{gathered_of};
 
     // The scale times (-1)^power.
@@ -67,7 +68,7 @@ impl Gathered {
     pub(crate) fn with_factorial(self, form: LinForm, power: i64) -> Result<Gathered, TermFault>
         requires not_zero { power ≢ pos 0 }
         requires small { unsigned_abs power ≤ 12 }
-        ensures answers { Answers gathered_of (with_factorial (form_of form) power (gathered_of self)) result }
+        ensures answers { Answers term_cause gathered_of (with_factorial (form_of form) power (gathered_of self)) result }
     {
         let Gathered {
             poly,
@@ -97,7 +98,7 @@ impl Gathered {
         requires some { 1 ≤ power }
         requires small { power ≤ 12 }
         requires not_zero { form_of form ≢ form_with (pos 0) (pos 0) (pos 0) }
-        ensures answers { Answers gathered_of (with_denominator at (form_of form) power (gathered_of self)) result }
+        ensures answers { Answers term_cause gathered_of (with_denominator at (form_of form) power (gathered_of self)) result }
     {
         let Gathered {
             poly,

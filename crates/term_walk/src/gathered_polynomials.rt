@@ -3,10 +3,11 @@
 ghost use Rattle.std.specs.Prelude.{◌≡◌, ◌≢◌, ◌≤◌, pos, neg_ℤ, unsigned_abs, None};
 ghost use Rattle.ring_laws.specs.Meaning.{items};
 ghost use Rattle.hypergeometric.specs.TreePolynomial.{constant_in_k};
-ghost use Rattle.term_classes.specs.Steps.{gives};
+ghost use Rattle.steps.specs.Answers.{Answers};
+ghost use Rattle.steps.specs.Found.{found};
+ghost use Rattle.steps.specs.Steps.{gives};
+ghost use Rattle.steps.specs.TermFaults.{term_cause};
 ghost use Rattle.term_classes.specs.Walk.{unit_term, times_polynomial, times_sought};
-ghost use Rattle.tree_polynomials.specs.Answers.{Answers};
-ghost use Rattle.tree_polynomials.specs.Views.{found};
 ghost use Rattle.term_walk.specs.Views.{gathered_of};
 
 use crate::factors::Factors;
@@ -17,12 +18,12 @@ use lin_form::times_power;
 use poly_generic::Znk;
 use ring_laws::{Ring, Whole};
 use std::alloc::Global;
-use term_faults::{TermFault, fault_at};
+use steps::{TermFault, fault_at};
 use tree_polynomials::constant_of;
 
 // The term 1.
 pub(crate) fn nothing_gathered(alloc: Global) -> Result<Gathered, TermFault>
-    ensures answers { Answers gathered_of (gives unit_term) result }
+    ensures answers { Answers term_cause gathered_of (gives unit_term) result }
 {
     let Ok(poly) = Znk::one(alloc) else {
         return Err(TermFault::Memory);
@@ -48,7 +49,7 @@ impl Gathered {
     ) -> Result<Gathered, TermFault>
         requires not_zero { power ≢ pos 0 }
         requires small { unsigned_abs power ≤ 12 }
-        ensures answers { Answers gathered_of (times_sought at power (gathered_of self) (found ⟦<Znk as Ring>⟧.meaning polynomial)) result }
+        ensures answers { Answers term_cause gathered_of (times_sought at power (gathered_of self) (found ⟦<Znk as Ring>⟧.meaning polynomial)) result }
     {
         let Some(polynomial) = polynomial else {
             return Err(TermFault::Improper { reason: 6, at });
@@ -70,7 +71,7 @@ impl Gathered {
         requires not_zero { power ≢ pos 0 }
         requires small { unsigned_abs power ≤ 12 }
         requires no_number { constant_in_k (items (⟦<Znk as Ring>⟧.meaning polynomial)) ≡ None }
-        ensures answers { Answers gathered_of (times_polynomial at (⟦<Znk as Ring>⟧.meaning polynomial) power (gathered_of self)) result }
+        ensures answers { Answers term_cause gathered_of (times_polynomial at (⟦<Znk as Ring>⟧.meaning polynomial) power (gathered_of self)) result }
     {
         let count = power.unsigned_abs() as u32;
         if power > 0 {
@@ -89,7 +90,7 @@ impl Gathered {
         power: u32,
     ) -> Result<Gathered, TermFault>
         requires no_number { constant_in_k (items (⟦<Znk as Ring>⟧.meaning polynomial)) ≡ None }
-        ensures answers { Answers gathered_of (times_polynomial at (⟦<Znk as Ring>⟧.meaning polynomial) (pos power) (gathered_of self)) result }
+        ensures answers { Answers term_cause gathered_of (times_polynomial at (⟦<Znk as Ring>⟧.meaning polynomial) (pos power) (gathered_of self)) result }
     {
         let Gathered {
             poly,
@@ -121,7 +122,7 @@ impl Gathered {
         requires some { 1 ≤ power }
         requires small { power ≤ 12 }
         requires no_number { constant_in_k (items (⟦<Znk as Ring>⟧.meaning polynomial)) ≡ None }
-        ensures answers { Answers gathered_of (times_polynomial at (⟦<Znk as Ring>⟧.meaning polynomial) (neg_ℤ (pos power))
+        ensures answers { Answers term_cause gathered_of (times_polynomial at (⟦<Znk as Ring>⟧.meaning polynomial) (neg_ℤ (pos power))
             (gathered_of self)) result }
     {
         let Some(form) = linear_form(&Some(polynomial)) else {

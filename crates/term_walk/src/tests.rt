@@ -4,7 +4,7 @@ use crate::{classify, classify_quotient, polynomials};
 use proper_term::{Proper, natural, value};
 use ring_laws::Whole;
 use std::alloc::Global;
-use term_faults::{LimitName, TermFault};
+use steps::{LimitName, TermFault};
 use term_text::{Ast, read_pair, read_recurrence, read_term};
 
 fn tree(alloc: Global, text: &[u8]) -> Option<Ast> {

@@ -2,10 +2,11 @@
 
 ghost use Rattle.std.specs.Prelude.{◌≡◌, ◌≢◌, ◌≤◌, pos, unsigned_abs};
 ghost use Rattle.term_text.specs.View.{tree_of, parts_of};
-ghost use Rattle.term_classes.specs.Steps.{◌then◌};
+ghost use Rattle.steps.specs.Answers.{Answers};
+ghost use Rattle.steps.specs.Steps.{◌then◌};
+ghost use Rattle.steps.specs.TermFaults.{term_cause};
 ghost use Rattle.term_classes.specs.Sought.{polynomial_sought};
 ghost use Rattle.term_classes.specs.Walk.{place_of, times_sought, walk, walk_parts};
-ghost use Rattle.tree_polynomials.specs.Answers.{Answers};
 ghost use Rattle.term_walk.specs.Views.{gathered_of};
 ghost use Rattle.term_walk.specs.WalkRows.{is_one_turned};
 
@@ -14,7 +15,7 @@ use crate::factorials::{times_binomial_of, times_factorial_of};
 use crate::gathered::Gathered;
 use crate::powers::{WalkPower, power_of_part};
 use std::alloc::Global;
-use term_faults::TermFault;
+use steps::TermFault;
 use term_text::{Ast, Node, Part};
 use tree_polynomials::polynomial_of_tree;
 
@@ -27,7 +28,7 @@ pub(crate) fn walk_tree(
 ) -> Result<Gathered, TermFault>
     requires not_zero { power ≢ pos 0 }
     requires small { unsigned_abs power ≤ 12 }
-    ensures answers { Answers gathered_of (walk (tree_of tree.now) power (gathered_of gathered)) result }
+    ensures answers { Answers term_cause gathered_of (walk (tree_of tree.now) power (gathered_of gathered)) result }
 {
     walk_node(alloc, tree, WalkPower { value: power }, gathered)
 }
@@ -40,7 +41,7 @@ fn walk_node(
     power: WalkPower,
     gathered: Gathered,
 ) -> Result<Gathered, TermFault>
-    ensures answers { Answers gathered_of (walk (tree_of tree.now) power.value (gathered_of gathered)) result }
+    ensures answers { Answers term_cause gathered_of (walk (tree_of tree.now) power.value (gathered_of gathered)) result }
 {
     match &tree.node {
         Node::Product(parts) => walk_factors(alloc, parts.as_slice(), power, gathered),
@@ -92,7 +93,7 @@ fn walk_factors(
     power: WalkPower,
     gathered: Gathered,
 ) -> Result<Gathered, TermFault>
-    ensures answers { Answers gathered_of (walk_parts (parts_of parts.now) power.value (gathered_of gathered)) result }
+    ensures answers { Answers term_cause gathered_of (walk_parts (parts_of parts.now) power.value (gathered_of gathered)) result }
 {
     let mut gathered = gathered;
     for part in parts {
@@ -126,7 +127,7 @@ fn times_polynomial_of(
 ) -> Result<Gathered, TermFault>
     requires not_zero { power ≢ pos 0 }
     requires small { unsigned_abs power ≤ 12 }
-    ensures answers { Answers gathered_of (polynomial_sought (tree_of tree.now) then (times_sought (place_of (tree_of tree.now)) power
+    ensures answers { Answers term_cause gathered_of (polynomial_sought (tree_of tree.now) then (times_sought (place_of (tree_of tree.now)) power
         (gathered_of gathered))) result }
 {
     let polynomial = polynomial_of_tree(alloc, tree)?;

@@ -5,10 +5,13 @@ ghost use Rattle.ring_laws.specs.Answer.{OnFault};
 ghost use Rattle.hypergeometric.specs.LinearForm.{LinearForm};
 ghost use Rattle.hypergeometric.specs.TreePolynomial.{constant_in_n};
 ghost use Rattle.lin_form.specs.Forms.{form_of};
-ghost use Rattle.term_classes.specs.Steps.{makes, of_number, within_limit};
+ghost use Rattle.steps.specs.Answers.{Answers};
+ghost use Rattle.steps.specs.Found.{found};
+ghost use Rattle.steps.specs.Operations.{of_number};
+ghost use Rattle.steps.specs.Steps.{makes};
+ghost use Rattle.steps.specs.TermFaults.{term_cause};
 ghost use Rattle.term_classes.specs.Forms.{form_of_coefficients, form_of_items, linear_form_of, is_negative_constant, form_difference, difference_size, limited_form, limited_exponent};
-ghost use Rattle.tree_polynomials.specs.Answers.{Answers, limit_of};
-ghost use Rattle.tree_polynomials.specs.Views.{found, whole_value};
+ghost use Rattle.tree_polynomials.specs.Views.{whole_value};
 ghost use Rattle.term_walk.specs.Views.{wide_form_of};
 ghost use Rattle.term_walk.specs.FormLimits.{form_within};
 
@@ -16,7 +19,7 @@ use lin_form::LinForm;
 use poly_generic::{Zn, Znk};
 use ring_laws::{Ring, RingFault, Whole};
 use std::alloc::Global;
-use term_faults::{LimitName, TermFault, fault_at};
+use steps::{LimitName, TermFault, fault_at};
 use tree_polynomials::number_within;
 
 /// `n_slope * n + k_slope * k + offset`, with numbers of 127 bits.
@@ -97,7 +100,7 @@ pub(crate) fn difference(
     form: WideForm,
     other: WideForm,
 ) -> Result<WideForm, TermFault>
-    ensures answers { Answers wide_form_of (makes at (of_number (difference_size (wide_form_of form) (wide_form_of other)))
+    ensures answers { Answers term_cause wide_form_of (makes at (of_number (difference_size (wide_form_of form) (wide_form_of other)))
         (form_difference (wide_form_of form) (wide_form_of other))) result }
 {
     match form_less(alloc, form, other) {
@@ -123,26 +126,25 @@ fn form_less(alloc: Global, form: WideForm, other: WideForm) -> Result<WideForm,
 
 // The form of an argument or a denominator, where it is within the limits.
 pub(crate) fn within_limits(form: WideForm) -> Result<LinForm, TermFault>
-    ensures answers { Answers form_of (limited_form (wide_form_of form)) result }
+    ensures answers { Answers term_cause form_of (limited_form (wide_form_of form)) result }
 {
-    within_offset_limit(form, LimitName::Offset, 1_000_000)
+    within_offset_limit(form, LimitName::Offset)
 }
 
 // The form of an exponent, where it is within the limits.
 pub(crate) fn exponent_within_limits(form: WideForm) -> Result<LinForm, TermFault>
-    ensures answers { Answers form_of (limited_exponent (wide_form_of form)) result }
+    ensures answers { Answers term_cause form_of (limited_exponent (wide_form_of form)) result }
 {
-    within_offset_limit(form, LimitName::Exponent, 12)
+    within_offset_limit(form, LimitName::Exponent)
 }
 
-// The form, where its slopes are at most 8 and its offset is within a limit.
-fn within_offset_limit(form: WideForm, name: LimitName, greatest: u64) -> Result<LinForm, TermFault>
-    requires small { greatest ≤ 2 ^ 40 }
-    ensures answers { Answers form_of (form_within (limit_of name) greatest (wide_form_of form)) result }
+// The form, where its slopes and its offset are within their limits.
+fn within_offset_limit(form: WideForm, name: LimitName) -> Result<LinForm, TermFault>
+    ensures answers { Answers term_cause form_of (form_within name (wide_form_of form)) result }
 {
-    let n_slope = number_within(form.n_slope, LimitName::Slope, 8)?;
-    let k_slope = number_within(form.k_slope, LimitName::Slope, 8)?;
-    let offset = number_within(form.offset, name, greatest)?;
+    let n_slope = number_within(form.n_slope, LimitName::Slope)?;
+    let k_slope = number_within(form.k_slope, LimitName::Slope)?;
+    let offset = number_within(form.offset, name)?;
     match LinForm::new(n_slope, k_slope, offset) {
         Some(form) => Ok(form),
         None => unreachable!(),

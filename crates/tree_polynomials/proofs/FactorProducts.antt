@@ -13,13 +13,14 @@ use Rattle.hypergeometric.specs.Fraction.{Fraction, of_whole, fraction_product}
 use Rattle.term_classes.specs.Divisors.{nonzero_size, size_of_top, size_of_bottom}
 use Rattle.term_classes.specs.Forms.{is_zero}
 use Rattle.term_classes.specs.Sought.{FractionFactor, divides_by_zero, factor_fraction, product_of_fractions, top_sizes, bottom_sizes}
-use Rattle.term_classes.specs.Steps.{Counterpart, IsInBounds, of_fraction, makes}
+use Rattle.steps.proofs.AnswerLaws.{ring_cause, made_too_large}
+use Rattle.steps.specs.Answers.{HasCause}
+use Rattle.steps.specs.Operations.{Counterpart, IsInBounds, of_fraction}
+use Rattle.steps.specs.Steps.{makes}
+use Rattle.steps.specs.TermFaults.{fault_of, term_cause}
 use Rattle.term_classes.proofs.FractionPowers.{product_assoc, one_product}
-use Rattle.term_faults.specs.Faults.{fault_of}
-use Rattle.tree_polynomials.specs.Answers.{HasCause}
 use Rattle.tree_polynomials.specs.Factors.{factor_of, factors_of}
 use Rattle.tree_polynomials.specs.declared.factors.Factor.{Factor}
-use Rattle.tree_polynomials.proofs.AnswerLaws.{ring_cause, made_too_large}
 
 -- the factor at an index comes next
 next_factor : (factors : List Factor) (i : ℕ) (x : Factor) → i < length factors → x ≡ get_or factors i x
@@ -45,10 +46,10 @@ product_size a b =
 -- a refused product of two fractions is out of bounds
 pub product_fault : (at : ℕ) (f g : RingFraction) (fault : RingFault) → OnFault (¬ FractionProductInBounds whole_algebra f g) fault
     → HasCause (makes at (of_fraction (size_of_top (whole_fraction f) * size_of_top (whole_fraction g))
-    (size_of_bottom (whole_fraction f) * size_of_bottom (whole_fraction g))) (fraction_product (whole_fraction f) (whole_fraction g))) (fault_of at fault)
+    (size_of_bottom (whole_fraction f) * size_of_bottom (whole_fraction g))) (fraction_product (whole_fraction f) (whole_fraction g))) (term_cause (fault_of at fault))
 product_fault at f g fault h =
     ring_cause (makes at counterpart product) at (¬ FractionProductInBounds whole_algebra f g) fault h
-    (λ out. made_too_large at counterpart product (λ small. out (record {
+    (λ out. made_too_large at counterpart (λ small. out (record {
       top = omega (arith, small.0, magnitudes_below (number_of f.top) (number_of g.top));
       bottom = omega (arith, small.1, magnitudes_below (number_of f.bottom) (number_of g.bottom));
     })))

@@ -1,15 +1,11 @@
-pub mod AnswerLaws
-pub mod Leading
 pub mod NextParts
 pub mod NumberPowers
 pub mod LowestFractions
-pub mod LargerCounterparts
 pub mod FactorProducts
 pub mod ExponentLaws
 pub mod ItemsBehind
 pub mod NoConstants
 pub mod NodesSought
-pub mod PartsSought
 pub mod PolynomialMeanings
 pub mod PolynomialParts
 pub mod PowersRaised

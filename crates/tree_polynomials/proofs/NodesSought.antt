@@ -10,17 +10,19 @@ use Rattle.term_text.specs.declared.ast.Part.{Part}
 use Rattle.term_text.specs.declared.ast.Node.TheVariants.{Literal, N, K, Sum, Product, Pow}
 use Rattle.term_text.specs.View.{tree_of, node_of, parts_of}
 use Rattle.term_text.proofs.Views.{node_of-literal, node_of-n, node_of-k, node_of-sum, node_of-product, node_of-pow, tree_of-at}
-use Rattle.term_classes.specs.Steps.{Steps, of_polynomial, gives, ◌then◌}
-use Rattle.term_classes.specs.Sought.{sum_of_polynomials, product_of_polynomials, sizes_added, sizes_multiplied, made_of, raised_at, polynomial_sought, node_polynomial_sought, summands_sought, factors_sought}
-use Rattle.tree_polynomials.specs.Answers.{Answers}
+use Rattle.steps.proofs.AnswerLaws.{later_answer}
+use Rattle.steps.specs.Answers.{Answers}
+use Rattle.steps.specs.Found.{made_of, found}
+use Rattle.steps.specs.Operations.{of_polynomial}
+use Rattle.steps.specs.Steps.{gives, ◌then◌}
+use Rattle.steps.specs.TermFaults.{TermSteps, term_cause}
+use Rattle.steps.specs.declared.faults.TermFault.{TermFault}
+use Rattle.term_classes.specs.Sought.{sum_of_polynomials, product_of_polynomials, sizes_added, sizes_multiplied, raised_at, polynomial_sought, node_polynomial_sought, summands_sought, factors_sought}
 use Rattle.tree_polynomials.specs.Exponents.{raised_to}
-use Rattle.tree_polynomials.specs.Views.{found}
-use Rattle.term_faults.specs.declared.faults.TermFault.{TermFault}
-use Rattle.tree_polynomials.proofs.AnswerLaws.{later_answer}
 
 -- an answer of the same steps
-pub same_answer : {T A : Type 0} (result : Result T TermFault) (view : T → A) (s t : Steps A) → s ≡ t → Answers view t result → Answers view s result
-same_answer result view s t e h = subst (λ u. Answers view u result) (sym e) h
+pub same_answer : {T A : Type 0} (result : Result T TermFault) (view : T → A) (s t : TermSteps A) → s ≡ t → Answers term_cause view t result → Answers term_cause view s result
+same_answer result view s t e h = subst (λ u. Answers term_cause view u result) (sym e) h
 
 node_sought : (a : Ast) (node : d.Node) → node_of a.node ≡ node → polynomial_sought (tree_of a) ≡ node_polynomial_sought a.at node
 node_sought a node e = ap polynomial_sought (tree_of-at a) ∙ ap (node_polynomial_sought a.at) e
@@ -53,31 +55,31 @@ power_sought a base exponent e = node_sought a (d.power_of (tree_of base) (tree_
 -- a sum, from what was found of its parts
 pub sum_answer : {T U : Type 0} (result : Result (Option T) TermFault) (x : Option U) (a : Ast) (ps qs : List Part) (view : T → Meaning)
     (given : U → List Meaning) → a.node ≡ Sum ps → qs ≡ ps → (summands_sought (parts_of qs)).outcome ≡ Ok (found given x)
-    → Answers (found view) (made_of a.at (λ ps. of_polynomial (sizes_added ps)) sum_of_polynomials (found given x)) result
-    → Answers (found view) (polynomial_sought (tree_of a)) result
+    → Answers term_cause (found view) (made_of a.at (λ ps. of_polynomial (sizes_added ps)) sum_of_polynomials (found given x)) result
+    → Answers term_cause (found view) (polynomial_sought (tree_of a)) result
 sum_answer result x a ps qs view given e h o k =
     same_answer result (found view) (polynomial_sought (tree_of a))
     (summands_sought (parts_of qs) then made_of a.at (λ ps. of_polynomial (sizes_added ps)) sum_of_polynomials)
     (sum_sought a qs (e ∙ ap Sum (sym h)))
-    (later_answer (found view) (summands_sought (parts_of qs)) (made_of a.at (λ ps. of_polynomial (sizes_added ps)) sum_of_polynomials)
+    (later_answer term_cause (found view) (summands_sought (parts_of qs)) (made_of a.at (λ ps. of_polynomial (sizes_added ps)) sum_of_polynomials)
     (found given x) result o k)
 
 -- and a product
 pub product_answer : {T U : Type 0} (result : Result (Option T) TermFault) (x : Option U) (a : Ast) (ps qs : List Part) (view : T → Meaning)
     (given : U → List Meaning) → a.node ≡ Product ps → qs ≡ ps → (factors_sought (parts_of qs)).outcome ≡ Ok (found given x)
-    → Answers (found view) (made_of a.at (λ ps. of_polynomial (sizes_multiplied ps)) product_of_polynomials (found given x)) result
-    → Answers (found view) (polynomial_sought (tree_of a)) result
+    → Answers term_cause (found view) (made_of a.at (λ ps. of_polynomial (sizes_multiplied ps)) product_of_polynomials (found given x)) result
+    → Answers term_cause (found view) (polynomial_sought (tree_of a)) result
 product_answer result x a ps qs view given e h o k =
     same_answer result (found view) (polynomial_sought (tree_of a))
     (factors_sought (parts_of qs) then made_of a.at (λ ps. of_polynomial (sizes_multiplied ps)) product_of_polynomials)
     (product_sought a qs (e ∙ ap Product (sym h)))
-    (later_answer (found view) (factors_sought (parts_of qs)) (made_of a.at (λ ps. of_polynomial (sizes_multiplied ps)) product_of_polynomials)
+    (later_answer term_cause (found view) (factors_sought (parts_of qs)) (made_of a.at (λ ps. of_polynomial (sizes_multiplied ps)) product_of_polynomials)
     (found given x) result o k)
 
 -- what was found, or that nothing was
-pub some_found : {T A : Type 0} (x : Option T) (y : T) (view : T → A) (s : Steps (Option A)) → s.outcome ≡ Ok (found view x) → x ≡ Some y
+pub some_found : {T A : Type 0} (x : Option T) (y : T) (view : T → A) (s : TermSteps (Option A)) → s.outcome ≡ Ok (found view x) → x ≡ Some y
     → s.outcome ≡ Ok (Some (view y))
 some_found x y view s e h = e ∙ ap (λ t. Ok (found view t)) h
 
-pub none_found : {T A : Type 0} (x : Option T) (view : T → A) (s : Steps (Option A)) → s.outcome ≡ Ok (found view x) → x ≡ None → s.outcome ≡ Ok None
+pub none_found : {T A : Type 0} (x : Option T) (view : T → A) (s : TermSteps (Option A)) → s.outcome ≡ Ok (found view x) → x ≡ None → s.outcome ≡ Ok None
 none_found x view s e h = e ∙ ap (λ t. Ok (found view t)) h

@@ -12,10 +12,11 @@ use Rattle.lin_form.specs.Products.{power_in, nonzero_magnitude, IsBound}
 use Rattle.ring_laws.specs.Answer.{OnFault}
 use Rattle.ring_laws.specs.declared.faults.RingFault.{RingFault}
 use Rattle.term_classes.specs.Divisors.{nonzero_size}
-use Rattle.term_classes.specs.Steps.{makes, of_number}
-use Rattle.term_faults.specs.Faults.{fault_of}
-use Rattle.tree_polynomials.specs.Answers.{HasCause}
-use Rattle.tree_polynomials.proofs.AnswerLaws.{ring_cause, made_too_large}
+use Rattle.steps.proofs.AnswerLaws.{ring_cause, made_too_large}
+use Rattle.steps.specs.Answers.{HasCause}
+use Rattle.steps.specs.Operations.{of_number}
+use Rattle.steps.specs.Steps.{makes}
+use Rattle.steps.specs.TermFaults.{fault_of, term_cause}
 
 pub power_number : (b : ℤ) (n : ℕ) → power_in whole_algebra.ops (number b) n ≡ number (pow b n)
 unfolding pow one
@@ -81,9 +82,9 @@ size_bound z = record {
 pub power_fault : (at : ℕ) (p b : ℤ) (n : ℕ) (fault : RingFault)
     → OnFault ((bound : Passing whole_algebra) → IsBound whole_algebra bound (number p)
     → ¬ whole_algebra.ops.Fits (whole_algebra.ops.product bound.0 (power_in whole_algebra.ops (nonzero_magnitude whole_algebra.ops (number b)) n))) fault
-    → HasCause (makes at (of_number (nonzero_size p * nonzero_size (pow b n))) (p *ℤ pow b n)) (fault_of at fault)
+    → HasCause (makes at (of_number (nonzero_size p * nonzero_size (pow b n))) (p *ℤ pow b n)) (term_cause (fault_of at fault))
 power_fault at p b n fault h =
     ring_cause (makes at (of_number (nonzero_size p * nonzero_size (pow b n))) (p *ℤ pow b n)) at _ fault h
-    (λ out. made_too_large at (of_number (nonzero_size p * nonzero_size (pow b n))) (p *ℤ pow b n) (λ small.
+    (λ out. made_too_large at (of_number (nonzero_size p * nonzero_size (pow b n))) (λ small.
     out (number (pos (nonzero_size p)), refl) (size_bound p)
     (subst (λ m. unsigned_abs (pos (nonzero_size p) *ℤ number_of m) < 2 ^ 127) (sym (size_number b n)) small)))

@@ -7,17 +7,17 @@ use Rattle.hypergeometric.specs.Tree.{Parts, part, no_parts}
 use Rattle.lin_form.proofs.ListProducts.{all_dropped}
 use Rattle.term_text.specs.declared.ast.Part.{Part}
 use Rattle.term_text.specs.View.{tree_of, parts_of}
-use Rattle.term_classes.specs.Steps.{Steps}
+use Rattle.steps.proofs.PartsSought.{Continues, part_first, part_done, part_none, part_fault}
+use Rattle.steps.specs.Answers.{HasCause}
+use Rattle.steps.specs.TermFaults.{TermSteps, term_cause}
+use Rattle.steps.specs.declared.faults.TermFault.{TermFault}
 use Rattle.term_classes.specs.Sought.{polynomial_sought, summands_sought, factors_sought, signed_polynomial}
-use Rattle.tree_polynomials.specs.Answers.{HasCause}
-use Rattle.term_faults.specs.declared.faults.TermFault.{TermFault}
 use Rattle.tree_polynomials.proofs.NextParts.{next_part}
-use Rattle.tree_polynomials.proofs.PartsSought.{Continues, part_first, part_done, part_none, part_fault}
 
 -- the parts of a sum
 module _ (ps : List Part) (i : ℕ) (p : Part) (done : List Meaning) (below : i < length ps) (is : p ≡ get_or ps i p)
     (h : Continues (summands_sought (parts_of ps)) (summands_sought (parts_of (drop i ps))) done) where
-  abbrev sums_behind : Steps (Option (List Meaning))
+  abbrev sums_behind : TermSteps (Option (List Meaning))
   sums_behind = summands_sought (parts_of (drop (i + 1) ps))
 
   there : Continues (summands_sought (parts_of ps)) (part_first (polynomial_sought (tree_of p.ast)) (signed_polynomial p.turned) sums_behind) done
@@ -32,14 +32,14 @@ module _ (ps : List Part) (i : ℕ) (p : Part) (done : List Meaning) (below : i 
   pub summand_none : (polynomial_sought (tree_of p.ast)).outcome ≡ Ok None → (summands_sought (parts_of ps)).outcome ≡ Ok None
   summand_none e = part_none (polynomial_sought (tree_of p.ast)) (signed_polynomial p.turned) sums_behind (summands_sought (parts_of ps)) done there e
 
-  pub summand_fault : (x : TermFault) → HasCause (polynomial_sought (tree_of p.ast)) x → HasCause (summands_sought (parts_of ps)) x
+  pub summand_fault : (x : TermFault) → HasCause (polynomial_sought (tree_of p.ast)) (term_cause x) → HasCause (summands_sought (parts_of ps)) (term_cause x)
   summand_fault x k =
-      part_fault (polynomial_sought (tree_of p.ast)) (signed_polynomial p.turned) sums_behind (summands_sought (parts_of ps)) done x there k
+      part_fault (polynomial_sought (tree_of p.ast)) (signed_polynomial p.turned) sums_behind (summands_sought (parts_of ps)) done (term_cause x) there k
 
 -- those of a product
 module _ (ps : List Part) (i : ℕ) (p : Part) (done : List Meaning) (below : i < length ps) (is : p ≡ get_or ps i p)
     (h : Continues (factors_sought (parts_of ps)) (factors_sought (parts_of (drop i ps))) done) where
-  abbrev products_behind : Steps (Option (List Meaning))
+  abbrev products_behind : TermSteps (Option (List Meaning))
   products_behind = factors_sought (parts_of (drop (i + 1) ps))
 
   turned_to : (b : Bool) → p.turned ≡ b
@@ -59,12 +59,12 @@ module _ (ps : List Part) (i : ℕ) (p : Part) (done : List Meaning) (below : i 
   pub factor_none : p.turned ≡ false → (polynomial_sought (tree_of p.ast)).outcome ≡ Ok None → (factors_sought (parts_of ps)).outcome ≡ Ok None
   factor_none f e = part_none (polynomial_sought (tree_of p.ast)) (λ m. m) products_behind (factors_sought (parts_of ps)) done (turned_to false f) e
 
-  pub factor_fault : (x : TermFault) → p.turned ≡ false → HasCause (polynomial_sought (tree_of p.ast)) x → HasCause (factors_sought (parts_of ps)) x
+  pub factor_fault : (x : TermFault) → p.turned ≡ false → HasCause (polynomial_sought (tree_of p.ast)) (term_cause x) → HasCause (factors_sought (parts_of ps)) (term_cause x)
   factor_fault x f k =
-      part_fault (polynomial_sought (tree_of p.ast)) (λ m. m) products_behind (factors_sought (parts_of ps)) done x (turned_to false f) k
+      part_fault (polynomial_sought (tree_of p.ast)) (λ m. m) products_behind (factors_sought (parts_of ps)) done (term_cause x) (turned_to false f) k
 
 -- past the last part
-all_done : (ps : List Part) (i : ℕ) (f : Parts → Steps (Option (List Meaning))) (done : List Meaning) → length ps ≤ i
+all_done : (ps : List Part) (i : ℕ) (f : Parts → TermSteps (Option (List Meaning))) (done : List Meaning) → length ps ≤ i
     → (f no_parts).outcome ≡ Ok (Some []) → Continues (f (parts_of ps)) (f (parts_of (drop i ps))) done → (f (parts_of ps)).outcome ≡ Ok (Some done)
 all_done ps i f done past none h =
     h.gives_more [] (ap (λ t. (f (parts_of t)).outcome) (all_dropped ps i past) ∙ none) ∙ ap (λ t. Ok (Some t)) (append-nil done)

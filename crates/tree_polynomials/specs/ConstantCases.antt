@@ -3,23 +3,25 @@ use Rattle.std.specs.Prelude.{ℕ, ℤ, true, unsigned_abs, Option, Some, None}
 use Rattle.hypergeometric.specs.Fraction.{Fraction}
 use Rattle.hypergeometric.specs.Tree.{Tree, Parts, no_parts, part}
 use Rattle.hypergeometric.specs.TreePolynomial.{constant_of}
-use Rattle.term_classes.specs.Refusals.{exponent_limit}
-use Rattle.term_classes.specs.Steps.{Steps, gives, within_limit, ◌then◌}
-use Rattle.term_classes.specs.Sought.{where_some, polynomial_sought, constant_sought, power_made, negative_of}
+use Rattle.steps.specs.Found.{where_some}
+use Rattle.steps.specs.Steps.{gives, within_limit, ◌then◌}
+use Rattle.steps.specs.TermFaults.{TermSteps}
+use Rattle.steps.specs.declared.limits.LimitName.TheVariants.{Exponent}
+use Rattle.term_classes.specs.Sought.{polynomial_sought, constant_sought, power_made, negative_of}
 
 -- a constant exponent within its limit
-abbrev pub limited_constant : ℤ → Steps (Option ℤ)
-limited_constant c = within_limit exponent_limit 12 (unsigned_abs c) c then (λ c1. gives (Some c))
+abbrev pub limited_constant : ℤ → TermSteps (Option ℤ)
+limited_constant c = within_limit Exponent (unsigned_abs c) c then (λ c1. gives (Some c))
 
 -- the constant that an exponent is, within its limit
-abbrev pub exponent_sought : Tree → Steps (Option ℤ)
+abbrev pub exponent_sought : Tree → TermSteps (Option ℤ)
 exponent_sought e = polynomial_sought e then (λ p. where_some (constant_of p) limited_constant)
 
 -- a base to a constant power
-abbrev pub power_sought : ℕ → Tree → ℤ → Steps (Option Fraction)
+abbrev pub power_sought : ℕ → Tree → ℤ → TermSteps (Option Fraction)
 power_sought at base c = constant_sought base then (λ f. where_some f (power_made at c))
 
 -- the parts of a sum, which has a constant of its own only where it is one part behind a leading minus
-abbrev pub negative_sought : Parts → Steps (Option Fraction)
+abbrev pub negative_sought : Parts → TermSteps (Option Fraction)
 negative_sought (part true t no_parts) = constant_sought t then (λ f. gives (negative_of f))
 negative_sought parts = gives None

@@ -1,5 +1,3 @@
-pub mod Answers
-pub mod Leads
 pub mod Exponents
 pub mod Views
 pub mod Factors

@@ -11,11 +11,6 @@ use Rattle.proper_term.specs.Fields.{whole_fraction}
 abbrev pub whole_value : Whole → ℤ
 whole_value whole = whole.value
 
--- what a value stands for, where there is one
-abbrev pub found : {T A : Type 0} → (T → A) → Option T → Option A
-found view None = None
-found view (Some x) = Some (view x)
-
 -- a fraction of whole numbers as a fraction of numbers
 abbrev pub fraction_value : {domain : DomainGhosts Whole} {ring : RingGhosts Whole} → Frac Whole domain ring → Fraction
 fraction_value f = whole_fraction (fraction_of f)

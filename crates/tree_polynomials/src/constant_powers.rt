@@ -4,9 +4,11 @@ ghost use Rattle.std.specs.Prelude.{◌≢◌, ◌≤◌, pos, unsigned_abs, IfO
 ghost use Rattle.proper_term.specs.Fields.{number_fraction};
 ghost use Rattle.term_text.specs.View.{tree_of};
 ghost use Rattle.term_classes.specs.Sought.{power_made};
-ghost use Rattle.tree_polynomials.specs.Answers.{Answers};
+ghost use Rattle.steps.specs.Answers.{Answers};
+ghost use Rattle.steps.specs.Found.{found};
+ghost use Rattle.steps.specs.TermFaults.{term_cause};
 ghost use Rattle.tree_polynomials.specs.ConstantCases.{limited_constant, exponent_sought};
-ghost use Rattle.tree_polynomials.specs.Views.{found, whole_value, fraction_value};
+ghost use Rattle.tree_polynomials.specs.Views.{whole_value, fraction_value};
 
 use crate::fractions::{over, times_natural_power};
 use crate::limits::number_within;
@@ -14,21 +16,21 @@ use crate::polynomials::{constant_of, polynomial_of_tree};
 use poly_fraction::Frac;
 use ring_laws::Whole;
 use std::alloc::Global;
-use term_faults::{LimitName, TermFault};
+use steps::{LimitName, TermFault};
 use term_text::Ast;
 
 // The constant exponent, within its limit.
 fn limited(constant: Whole) -> Result<Option<Whole>, TermFault>
-    ensures answers { Answers (found whole_value) (limited_constant constant.value) result }
+    ensures answers { Answers term_cause (found whole_value) (limited_constant constant.value) result }
     ensures small { IfOk result (λ found. IfSome found (λ c. unsigned_abs c.value ≤ 12)) }
 {
-    number_within(constant, LimitName::Exponent, 12)?;
+    number_within(constant, LimitName::Exponent)?;
     Ok(Some(constant))
 }
 
 // The constant that an exponent is, within its limit.
 pub(crate) fn exponent_of(alloc: Global, exponent: &Ast) -> Result<Option<Whole>, TermFault>
-    ensures answers { Answers (found whole_value) (exponent_sought (tree_of exponent.now)) result }
+    ensures answers { Answers term_cause (found whole_value) (exponent_sought (tree_of exponent.now)) result }
     ensures small { IfOk result (λ found. IfSome found (λ c. unsigned_abs c.value ≤ 12)) }
 {
     let Some(polynomial) = polynomial_of_tree(alloc, exponent)? else {
@@ -49,7 +51,7 @@ fn natural_power(
     power: u32,
 ) -> Result<Option<Frac<Whole>>, TermFault>
     requires not_zero { bottom.value ≢ pos 0 }
-    ensures answers { Answers (found fraction_value) (power_made at (pos power) (number_fraction top.value bottom.value)) result }
+    ensures answers { Answers term_cause (found fraction_value) (power_made at (pos power) (number_fraction top.value bottom.value)) result }
 {
     let one = over(Whole { value: 1 }, Whole { value: 1 });
     let power = times_natural_power(alloc, at, &one, top, bottom, power)?;
@@ -64,7 +66,7 @@ pub(crate) fn constant_power(
     power: Whole,
 ) -> Result<Option<Frac<Whole>>, TermFault>
     requires small { unsigned_abs power.value ≤ 12 }
-    ensures answers { Answers (found fraction_value) (power_made at power.value (fraction_value base.now)) result }
+    ensures answers { Answers term_cause (found fraction_value) (power_made at power.value (fraction_value base.now)) result }
 {
     let times = power.value().unsigned_abs() as u32;
     let top = *base.top();

@@ -5,7 +5,7 @@ use poly_fraction::Frac;
 use ring_laws::{RingFault, Whole};
 use std::alloc::Global;
 use std::test::Fail;
-use term_faults::{LimitName, TermFault};
+use steps::{LimitName, TermFault};
 use term_text::read_term;
 
 // The constant of a text, and no memory for one that isn't read.

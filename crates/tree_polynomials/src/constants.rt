@@ -5,12 +5,14 @@ ghost use Rattle.ring_laws.specs.Meaning.{items};
 ghost use Rattle.hypergeometric.specs.Fraction.{fraction_negative};
 ghost use Rattle.hypergeometric.specs.TreePolynomial.{constant_in_k};
 ghost use Rattle.term_text.specs.View.{tree_of, parts_of};
-ghost use Rattle.term_classes.specs.Steps.{◌then◌};
+ghost use Rattle.steps.specs.Answers.{Answers};
+ghost use Rattle.steps.specs.Found.{found};
+ghost use Rattle.steps.specs.Steps.{◌then◌};
+ghost use Rattle.steps.specs.TermFaults.{term_cause};
 ghost use Rattle.term_classes.specs.Sought.{constant_sought, constants_sought, product_made, whole_fraction};
-ghost use Rattle.tree_polynomials.specs.Answers.{Answers};
 ghost use Rattle.tree_polynomials.specs.ConstantCases.{negative_sought, power_sought};
 ghost use Rattle.tree_polynomials.specs.Factors.{factors_of};
-ghost use Rattle.tree_polynomials.specs.Views.{found, fraction_value};
+ghost use Rattle.tree_polynomials.specs.Views.{fraction_value};
 
 use crate::constant_powers::{constant_power, exponent_of};
 use crate::factors::{Factor, product_in_lowest_terms};
@@ -21,7 +23,7 @@ use poly_generic::Znk;
 use ring_laws::{Ring, Whole};
 use sqlite_items::Items;
 use std::alloc::Global;
-use term_faults::TermFault;
+use steps::TermFault;
 use term_text::{Ast, Node, Part};
 
 // The constant that a polynomial is, as a fraction.
@@ -47,7 +49,7 @@ fn negative(constant: &Frac<Whole>) -> Frac<Whole>
 /// The constant that the tree stands for, in lowest terms, or none, or the first refusal in seeking it.
 #[cycle(sought)]
 pub fn constant_of_tree(alloc: Global, tree: &Ast) -> Result<Option<Frac<Whole>>, TermFault>
-    ensures answers { Answers (found fraction_value) (constant_sought (tree_of tree.now)) result }
+    ensures answers { Answers term_cause (found fraction_value) (constant_sought (tree_of tree.now)) result }
 {
     if let Some(polynomial) = polynomial_of_tree(alloc, tree)? {
         return Ok(constant_fraction(&polynomial));
@@ -72,7 +74,7 @@ pub fn constant_of_tree(alloc: Global, tree: &Ast) -> Result<Option<Frac<Whole>>
 // The constant of the parts of a sum: that of one part behind a leading minus, negated.
 #[cycle(sought)]
 fn constant_of_sum(alloc: Global, parts: &[Part]) -> Result<Option<Frac<Whole>>, TermFault>
-    ensures answers { Answers (found fraction_value) (negative_sought (parts_of parts.now)) result }
+    ensures answers { Answers term_cause (found fraction_value) (negative_sought (parts_of parts.now)) result }
 {
     let [part] = parts else {
         return Ok(None);
@@ -93,7 +95,7 @@ fn constant_of_product(
     at: u32,
     parts: &[Part],
 ) -> Result<Option<Frac<Whole>>, TermFault>
-    ensures answers { Answers (found fraction_value) (constants_sought (parts_of parts.now) then (product_made at)) result }
+    ensures answers { Answers term_cause (found fraction_value) (constants_sought (parts_of parts.now) then (product_made at)) result }
 {
     let Some(factors) = constants_of(alloc, parts)? else {
         return Ok(None);
@@ -104,7 +106,7 @@ fn constant_of_product(
 // The constants of all parts of a product, in their order.
 #[cycle(sought)]
 fn constants_of(alloc: Global, parts: &[Part]) -> Result<Option<Items<Factor>>, TermFault>
-    ensures answers { Answers (found factors_of) (constants_sought (parts_of parts.now)) result }
+    ensures answers { Answers term_cause (found factors_of) (constants_sought (parts_of parts.now)) result }
 {
     let mut factors = Items::new(alloc);
     for part in parts {
@@ -131,7 +133,7 @@ fn constant_of_power(
     power: Whole,
 ) -> Result<Option<Frac<Whole>>, TermFault>
     requires small { unsigned_abs power.value ≤ 12 }
-    ensures answers { Answers (found fraction_value) (power_sought at (tree_of base.now) power.value) result }
+    ensures answers { Answers term_cause (found fraction_value) (power_sought at (tree_of base.now) power.value) result }
 {
     let Some(base) = constant_of_tree(alloc, base)? else {
         return Ok(None);

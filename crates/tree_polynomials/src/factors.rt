@@ -2,19 +2,22 @@
 
 ghost use Rattle.std.specs.Prelude.{◌≡◌, ◌*◌, ◌&&◌, false, Some};
 ghost use Rattle.hypergeometric.specs.Fraction.{fraction_product};
-ghost use Rattle.term_classes.specs.Steps.{makes, of_fraction};
+ghost use Rattle.steps.specs.Answers.{Answers};
+ghost use Rattle.steps.specs.Found.{found};
+ghost use Rattle.steps.specs.Operations.{of_fraction};
+ghost use Rattle.steps.specs.Steps.{makes};
+ghost use Rattle.steps.specs.TermFaults.{term_cause};
 ghost use Rattle.term_classes.specs.Divisors.{size_of_top, size_of_bottom};
 ghost use Rattle.term_classes.specs.Forms.{is_zero};
 ghost use Rattle.term_classes.specs.Sought.{divides_by_zero, factor_fraction, product_of_fractions, top_sizes, bottom_sizes, product_made};
-ghost use Rattle.tree_polynomials.specs.Answers.{Answers};
 ghost use Rattle.tree_polynomials.specs.Factors.{factor_of, factors_of};
-ghost use Rattle.tree_polynomials.specs.Views.{found, fraction_value};
+ghost use Rattle.tree_polynomials.specs.Views.{fraction_value};
 
 use crate::fractions::{lowered, over};
 use poly_fraction::Frac;
 use ring_laws::Whole;
 use std::alloc::Global;
-use term_faults::{TermFault, fault_at};
+use steps::{TermFault, fault_at};
 
 /// A fraction of a product, and whether it is divided by.
 #[derive(Drop)]
@@ -64,7 +67,7 @@ fn times_factor(
     factor: &Factor,
 ) -> Result<Frac<Whole>, TermFault>
     requires some { (factor.now.turned && is_zero (fraction_value factor.now.fraction).top) ≡ false }
-    ensures answers { Answers fraction_value (makes at
+    ensures answers { Answers term_cause fraction_value (makes at
         (of_fraction (size_of_top (fraction_value product.now) * size_of_top (factor_fraction (factor_of factor.now)))
         (size_of_bottom (fraction_value product.now) * size_of_bottom (factor_fraction (factor_of factor.now))))
         (fraction_product (fraction_value product.now) (factor_fraction (factor_of factor.now)))) result }
@@ -79,7 +82,7 @@ fn times_factor(
 // The product of all factors, as one operation of the node at the place.
 fn product_of(alloc: Global, at: u32, factors: &[Factor]) -> Result<Frac<Whole>, TermFault>
     requires some { divides_by_zero (factors_of factors.now) ≡ false }
-    ensures answers { Answers fraction_value (makes at
+    ensures answers { Answers term_cause fraction_value (makes at
         (of_fraction (top_sizes (factors_of factors.now)) (bottom_sizes (factors_of factors.now)))
         (product_of_fractions (factors_of factors.now))) result }
 {
@@ -96,7 +99,7 @@ pub(crate) fn product_in_lowest_terms(
     at: u32,
     factors: &[Factor],
 ) -> Result<Option<Frac<Whole>>, TermFault>
-    ensures answers { Answers (found fraction_value) (product_made at (Some (factors_of factors.now))) result }
+    ensures answers { Answers term_cause (found fraction_value) (product_made at (Some (factors_of factors.now))) result }
 {
     if has_zero_below(factors) {
         return Ok(None);

@@ -4,14 +4,15 @@ ghost use Rattle.std.specs.Prelude.{◌≡◌, ◌≢◌, ◌≤◌, pos, unsign
 ghost use Rattle.proper_term.specs.Fields.{number_fraction};
 ghost use Rattle.term_classes.specs.Divisors.{lowest_terms};
 ghost use Rattle.term_classes.specs.Walk.{times_power};
-ghost use Rattle.tree_polynomials.specs.Answers.{Answers};
+ghost use Rattle.steps.specs.Answers.{Answers};
+ghost use Rattle.steps.specs.TermFaults.{term_cause};
 ghost use Rattle.tree_polynomials.specs.Views.{fraction_value};
 
 use crate::powers::number_times_power;
 use poly_fraction::{Frac, lowest};
 use ring_laws::Whole;
 use std::alloc::Global;
-use term_faults::TermFault;
+use steps::TermFault;
 
 // A numerator over a denominator.
 pub(crate) fn over(top: Whole, bottom: Whole) -> Frac<Whole>
@@ -38,7 +39,7 @@ pub(crate) fn times_natural_power(
     power: u32,
 ) -> Result<Frac<Whole>, TermFault>
     requires not_zero { bottom.value ≢ pos 0 }
-    ensures answers { Answers fraction_value (times_power at (fraction_value fraction.now)
+    ensures answers { Answers term_cause fraction_value (times_power at (fraction_value fraction.now)
         (number_fraction top.value bottom.value) (pos power)) result }
 {
     let top = number_times_power(alloc, at, *fraction.top(), top, power)?;
@@ -56,7 +57,7 @@ pub fn times_power_of(
 ) -> Result<Frac<Whole>, TermFault>
     requires not_zero { (fraction_value base.now).top ≢ pos 0 }
     requires in_range { unsigned_abs power ≤ 768 }
-    ensures answers { Answers fraction_value (times_power at (fraction_value fraction.now) (fraction_value base.now) power) result }
+    ensures answers { Answers term_cause fraction_value (times_power at (fraction_value fraction.now) (fraction_value base.now) power) result }
 {
     let times = power.unsigned_abs() as u32;
     if power < 0 {

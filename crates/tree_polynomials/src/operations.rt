@@ -4,27 +4,29 @@ ghost use Rattle.std.specs.Prelude.{◌≡◌, map, Some, IfOk, IfErr};
 ghost use Rattle.ring_laws.specs.Meaning.{Meaning};
 ghost use Rattle.ring_laws.specs.Answer.{Gives, OnFault};
 ghost use Rattle.hypergeometric.specs.TreePolynomial.{in_n_and_k};
-ghost use Rattle.term_classes.specs.Steps.{gives, makes, of_polynomial};
-ghost use Rattle.term_classes.specs.Sought.{made_of, raised_at, sizes_added, sizes_multiplied, sum_of_polynomials, product_of_polynomials};
-ghost use Rattle.tree_polynomials.specs.Answers.{Answers};
-ghost use Rattle.tree_polynomials.specs.Views.{found};
+ghost use Rattle.steps.specs.Answers.{Answers};
+ghost use Rattle.steps.specs.Found.{made_of, found};
+ghost use Rattle.steps.specs.Operations.{of_polynomial};
+ghost use Rattle.steps.specs.Steps.{gives, makes};
+ghost use Rattle.steps.specs.TermFaults.{term_cause};
+ghost use Rattle.term_classes.specs.Sought.{raised_at, sizes_added, sizes_multiplied, sum_of_polynomials, product_of_polynomials};
 
 use crate::products::{power_of, product_of};
 use crate::sums::sum_of;
 use poly_generic::Znk;
 use ring_laws::{Ring, RingFault};
 use std::alloc::Global;
-use term_faults::{TermFault, fault_at};
+use steps::{TermFault, fault_at};
 
 // The polynomial that a call of the ring gives as that of the node at a place, and its fault as one of the node's arithmetic.
 pub(crate) fn answer_at(
     at: u32,
     polynomial: Result<Znk, RingFault>,
 ) -> Result<Option<Znk>, TermFault>
-    ensures leaf { (m : Meaning) → Gives ⟦<Znk as Ring>⟧.meaning m polynomial → Answers (found ⟦<Znk as Ring>⟧.meaning) (gives (Some m)) result }
+    ensures leaf { (m : Meaning) → Gives ⟦<Znk as Ring>⟧.meaning m polynomial → Answers term_cause (found ⟦<Znk as Ring>⟧.meaning) (gives (Some m)) result }
     ensures made { (m counterpart : Meaning) → IfOk polynomial (λ p. ⟦<Znk as Ring>⟧.meaning p ≡ m)
         → IfErr polynomial (OnFault (¬ in_n_and_k.Fits counterpart))
-        → Answers (found ⟦<Znk as Ring>⟧.meaning) (makes at (of_polynomial counterpart) (Some m)) result }
+        → Answers term_cause (found ⟦<Znk as Ring>⟧.meaning) (makes at (of_polynomial counterpart) (Some m)) result }
 {
     match polynomial {
         Ok(polynomial) => Ok(Some(polynomial)),
@@ -38,7 +40,7 @@ pub(crate) fn added(
     at: u32,
     summands: Option<Vec<Znk>>,
 ) -> Result<Option<Znk>, TermFault>
-    ensures answers { Answers (found ⟦<Znk as Ring>⟧.meaning) (made_of at (λ ps. of_polynomial (sizes_added ps)) sum_of_polynomials
+    ensures answers { Answers term_cause (found ⟦<Znk as Ring>⟧.meaning) (made_of at (λ ps. of_polynomial (sizes_added ps)) sum_of_polynomials
         (found (λ list. map ⟦<Znk as Ring>⟧.meaning list.items) summands)) result }
 {
     match summands {
@@ -53,7 +55,7 @@ pub(crate) fn multiplied(
     at: u32,
     factors: Option<Vec<Znk>>,
 ) -> Result<Option<Znk>, TermFault>
-    ensures answers { Answers (found ⟦<Znk as Ring>⟧.meaning) (made_of at (λ ps. of_polynomial (sizes_multiplied ps)) product_of_polynomials
+    ensures answers { Answers term_cause (found ⟦<Znk as Ring>⟧.meaning) (made_of at (λ ps. of_polynomial (sizes_multiplied ps)) product_of_polynomials
         (found (λ list. map ⟦<Znk as Ring>⟧.meaning list.items) factors)) result }
 {
     match factors {
@@ -69,7 +71,7 @@ pub(crate) fn raised(
     base: Option<Znk>,
     power: u32,
 ) -> Result<Option<Znk>, TermFault>
-    ensures answers { Answers (found ⟦<Znk as Ring>⟧.meaning) (raised_at at power (found ⟦<Znk as Ring>⟧.meaning base)) result }
+    ensures answers { Answers term_cause (found ⟦<Znk as Ring>⟧.meaning) (raised_at at power (found ⟦<Znk as Ring>⟧.meaning base)) result }
 {
     match base {
         Some(base) => answer_at(at, power_of(alloc, base, power)),

@@ -1,7 +1,7 @@
 use Rattle.std.proofs.Common.{ap, sym, ◌∙◌}
 use Rattle.std.specs.Prelude.{◌*ℤ◌, unsigned_abs, Ok}
-use Rattle.term_classes.specs.Refusals.{exponent_limit}
-use Rattle.term_classes.proofs.StepLaws.{limit_kept}
+use Rattle.steps.proofs.StepLaws.{limit_kept}
+use Rattle.steps.specs.declared.limits.LimitName.TheVariants.{Exponent}
 use Rattle.term_walk.proofs.CappedCounts.{counted_is, count_passed, count_kept, factor_small}
 use Rattle.term_walk.proofs.HeldNumbers.{held, cast_fits, cast_held}
 use Rattle.term_walk.proofs.exponents.exponent_within_limit.Goals as goal
@@ -31,6 +31,6 @@ returns c =
     let kept = count_kept c.args.power c.args.constant.value c.saturating_mul-counted.result count c.if-counted-gt12.false in
     let small = factor_small c.args.power c.args.constant.value 12 c.requires.not_zero kept in
     record {
-      answers = limit_kept exponent_limit 12 (unsigned_abs (c.args.power *ℤ c.args.constant.value)) c.args.constant.value kept
+      answers = limit_kept Exponent (unsigned_abs (c.args.power *ℤ c.args.constant.value)) c.args.constant.value kept
           ∙ ap Ok (sym (cast_held c.args.constant.value c.value.result c.value.ensures.value small));
     }

@@ -7,9 +7,11 @@ use Rattle.hypergeometric.specs.ProperTerm.{ProperTerm}
 use Rattle.hypergeometric.specs.Tree.{Tree}
 use Rattle.lin_form.specs.Forms.{form_of}
 use Rattle.term_text.specs.View.{tree_of}
-use Rattle.tree_polynomials.specs.Views.{found, fraction_value}
+use Rattle.steps.proofs.Leading.{leads_answer}
+use Rattle.steps.specs.Found.{found}
+use Rattle.steps.specs.TermFaults.{term_cause}
+use Rattle.tree_polynomials.specs.Views.{fraction_value}
 use Rattle.term_walk.specs.Views.{gathered_of, wide_form_of}
-use Rattle.tree_polynomials.proofs.Leading.{leads_answer}
 use Rattle.term_classes.proofs.WalkValues.{base_found}
 use Rattle.term_walk.proofs.RowLeads as row
 use Rattle.term_walk.proofs.exponents.times_exponential_of.Goals as goal
@@ -90,7 +92,7 @@ returns c =
     } in
     let known = rw (to_z-of_z w64 c.args.power c.ranges.power) at c.times_exponential.ensures.answers in
     record {
-      answers = leads_answer gathered_of c.times_exponential.result (row.exponential_leads c.args.at base e form w f _ _
+      answers = leads_answer term_cause gathered_of c.times_exponential.result (row.exponential_leads c.args.at base e form w f _ _
           (wide_form_of c.in_ok-linear.linear) (form_of c.in_ok-limited.limited) based c.in_ok-linear.ensures.answers
           c.in_ok-limited.ensures.answers) known;
     }

@@ -5,10 +5,11 @@ use Rattle.hypergeometric.specs.ProperTerm.{ProperTerm}
 use Rattle.hypergeometric.specs.Tree.{Tree}
 use Rattle.term_text.specs.View.{tree_of}
 use Rattle.term_classes.specs.Walk.{argument_sought, not_negative, place_of}
-use Rattle.tree_polynomials.proofs.AnswerLaws.{first_cause}
+use Rattle.steps.proofs.AnswerLaws.{first_cause}
+use Rattle.steps.proofs.Leading.{leads_on, leads_answer}
+use Rattle.steps.specs.TermFaults.{term_cause}
 use Rattle.term_walk.specs.Views.{gathered_of, wide_form_of}
 use Rattle.term_walk.specs.WalkRows.{difference_left}
-use Rattle.tree_polynomials.proofs.Leading.{leads_on, leads_answer}
 use Rattle.term_walk.proofs.HeldNumbers.{held}
 use Rattle.term_walk.proofs.BinomialLeads.{lower_left, forms_left, lower_sought, upper_leads, are_found, found_leads, upper_kept, lower_kept}
 use Rattle.term_walk.proofs.factorials.times_binomial_of.Goals as goal
@@ -22,7 +23,7 @@ returns-in_err-upper_form c =
     let f : ProperTerm = gathered_of c.args.gathered in
     let w : ℤ = c.args.power in
     rw (p.1, p.2) (record {
-      answers = first_cause (argument_sought upper) (λ l. lower_sought c.args.at upper lower l w f) c.in_err-upper_form.field-0.0
+      answers = first_cause (argument_sought upper) (λ l. lower_sought c.args.at upper lower l w f) (term_cause c.in_err-upper_form.field-0.0)
           c.in_err-upper_form.ensures.answers;
     })
 
@@ -37,8 +38,8 @@ returns-in_err-lower_form c =
     let l : LinearForm = wide_form_of c.in_ok-upper_form.upper_form in
     let sought = upper_leads c.args.at upper lower w f l c.in_ok-upper_form.ensures.answers in
     rw (p.1, p.2) (record {
-      answers = sought.cause c.in_err-lower_form.field-0.0 (first_cause (argument_sought lower)
-          (λ m. forms_left c.args.at (place_of upper) (place_of lower) l m w f) c.in_err-lower_form.field-0.0 c.in_err-lower_form.ensures.answers);
+      answers = sought.cause (term_cause c.in_err-lower_form.field-0.0) (first_cause (argument_sought lower)
+          (λ m. forms_left c.args.at (place_of upper) (place_of lower) l m w f) (term_cause c.in_err-lower_form.field-0.0) c.in_err-lower_form.ensures.answers);
     })
 
 -- a negative upper argument
@@ -54,8 +55,8 @@ returns-in_err-not_negative_number c =
     let both = are_found c.args.upper.now c.args.lower.now l m c.in_ok-upper_form.ensures.answers c.in_ok-lower_form.ensures.answers in
     let found = found_leads c.args.at upper lower w f c.args.upper.now.at c.args.lower.now.at l m both in
     rw (p.1, p.2) (record {
-      answers = found.cause c.in_err-not_negative_number.field-0.0 (first_cause (not_negative c.args.upper.now.at l)
-          (λ l1. lower_left c.args.at c.args.lower.now.at l m w f) c.in_err-not_negative_number.field-0.0
+      answers = found.cause (term_cause c.in_err-not_negative_number.field-0.0) (first_cause (not_negative c.args.upper.now.at l)
+          (λ l1. lower_left c.args.at c.args.lower.now.at l m w f) (term_cause c.in_err-not_negative_number.field-0.0)
           c.in_err-not_negative_number.ensures.answers);
     })
 
@@ -74,8 +75,8 @@ returns-in_err-not_negative_number-2 c =
     let kept = leads_on found (upper_kept c.args.at c.args.upper.now.at c.args.lower.now.at w f l m _
     c.in_ok-not_negative_number.ensures.answers) in
     rw (p.1, p.2) (record {
-      answers = kept.cause c.in_err-not_negative_number-2.field-0.0 (first_cause (not_negative c.args.lower.now.at m)
-          (λ m1. difference_left c.args.at l m w f) c.in_err-not_negative_number-2.field-0.0 c.in_err-not_negative_number-2.ensures.answers);
+      answers = kept.cause (term_cause c.in_err-not_negative_number-2.field-0.0) (first_cause (not_negative c.args.lower.now.at m)
+          (λ m1. difference_left c.args.at l m w f) (term_cause c.in_err-not_negative_number-2.field-0.0) c.in_err-not_negative_number-2.ensures.answers);
     })
 
 -- the two forms
@@ -93,4 +94,4 @@ returns c =
     c.in_ok-not_negative_number.ensures.answers) in
     let both_kept = leads_on kept (lower_kept c.args.at c.args.lower.now.at w f l m _ c.in_ok-not_negative_number-2.ensures.answers) in
     let known = rw (held c.args.power c.requires.small) at c.times_two_forms.ensures.answers in
-    record { answers = leads_answer gathered_of c.times_two_forms.result both_kept known }
+    record { answers = leads_answer term_cause gathered_of c.times_two_forms.result both_kept known }

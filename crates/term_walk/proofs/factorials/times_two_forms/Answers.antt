@@ -2,13 +2,15 @@ use Rattle.std.proofs.lemmas.Result.{err_from_is_err_and}
 use Rattle.std.specs.Prelude.{ℤ}
 use Rattle.hypergeometric.specs.LinearForm.{LinearForm}
 use Rattle.hypergeometric.specs.ProperTerm.{ProperTerm}
-use Rattle.term_classes.specs.Steps.{of_number, makes, ◌then◌}
+use Rattle.steps.proofs.AnswerLaws.{first_cause}
+use Rattle.steps.proofs.Leading.{leads_on, leads_answer}
+use Rattle.steps.specs.Operations.{of_number}
+use Rattle.steps.specs.Steps.{makes, ◌then◌}
+use Rattle.steps.specs.TermFaults.{term_cause}
 use Rattle.term_classes.specs.Forms.{form_difference, difference_size}
 use Rattle.term_classes.specs.Walk.{not_negative}
-use Rattle.tree_polynomials.proofs.AnswerLaws.{first_cause}
 use Rattle.term_walk.specs.Views.{gathered_of, wide_form_of}
 use Rattle.term_walk.specs.WalkRows.{limits_left}
-use Rattle.tree_polynomials.proofs.Leading.{leads_on, leads_answer}
 use Rattle.term_walk.proofs.HeldNumbers.{held}
 use Rattle.term_walk.proofs.BinomialLeads.{difference_leads, difference_kept}
 use Rattle.term_walk.proofs.factorials.times_two_forms.Goals as goal
@@ -23,7 +25,7 @@ returns-in_err-between c =
     let w : ℤ = c.args.power in
     rw (p.1, p.2) (record {
       answers = first_cause (makes c.args.at (of_number (difference_size l m)) (form_difference l m))
-          (λ d. not_negative c.args.at d then (λ d1. limits_left l m d w f)) c.in_err-between.field-0.0 c.in_err-between.ensures.answers;
+          (λ d. not_negative c.args.at d then (λ d1. limits_left l m d w f)) (term_cause c.in_err-between.field-0.0) c.in_err-between.ensures.answers;
     })
 
 -- a negative difference
@@ -37,8 +39,8 @@ returns-in_err-not_negative_number c =
     let d : LinearForm = wide_form_of c.in_ok-between.between in
     let made = difference_leads c.args.at w f l m d c.in_ok-between.ensures.answers in
     rw (p.1, p.2) (record {
-      answers = made.cause c.in_err-not_negative_number.field-0.0 (first_cause (not_negative c.args.at d) (λ d1. limits_left l m d w f)
-          c.in_err-not_negative_number.field-0.0 c.in_err-not_negative_number.ensures.answers);
+      answers = made.cause (term_cause c.in_err-not_negative_number.field-0.0) (first_cause (not_negative c.args.at d) (λ d1. limits_left l m d w f)
+          (term_cause c.in_err-not_negative_number.field-0.0) c.in_err-not_negative_number.ensures.answers);
     })
 
 -- the three factorials
@@ -52,4 +54,4 @@ returns c =
     let made = difference_leads c.args.at w f l m d c.in_ok-between.ensures.answers in
     let kept = difference_kept c.args.at w f l m d _ c.in_ok-not_negative_number.ensures.answers in
     let known = rw (held c.args.power c.requires.small) at c.times_three_forms.ensures.answers in
-    record { answers = leads_answer gathered_of c.times_three_forms.result (leads_on made kept) known }
+    record { answers = leads_answer term_cause gathered_of c.times_three_forms.result (leads_on made kept) known }

@@ -2,18 +2,19 @@ use Rattle.std.proofs.Common.{sym, ◌∙◌}
 use Rattle.std.specs.Prelude.{pos}
 use Rattle.hypergeometric.specs.Fraction.{of_whole}
 use Rattle.poly_fraction.specs.FractionOf.{fraction_of}
-use Rattle.term_classes.specs.Steps.{gives}
+use Rattle.steps.proofs.AnswerLaws.{fault_answer}
+use Rattle.steps.specs.Steps.{gives}
+use Rattle.steps.specs.TermFaults.{term_cause}
 use Rattle.term_classes.specs.Walk.{unit_term}
 use Rattle.term_walk.specs.Views.{gathered_of}
 use Rattle.term_walk.proofs.LowestFields.{is_lowest, one_terms}
-use Rattle.tree_polynomials.proofs.AnswerLaws.{fault_answer}
 use Rattle.term_walk.proofs.UnitTerms.{unit_given}
 use Rattle.term_classes.proofs.PassingPolynomials.{unit_not_nought}
 use Rattle.term_walk.proofs.gathered_polynomials.nothing_gathered.Goals as goal
 
 pub returns-in_err-factors : goal.returns-in_err-factors
 returns-in_err-factors c = record {
-  answers = fault_answer gathered_of (gives unit_term) c.from_residual.result c.in_err-factors.field-0.0 c.from_residual.ensures.1
+  answers = fault_answer term_cause gathered_of (gives unit_term) c.from_residual.result c.in_err-factors.field-0.0 c.from_residual.ensures.1
       (c.in_err-factors.ensures.answers unit_term);
 }
 

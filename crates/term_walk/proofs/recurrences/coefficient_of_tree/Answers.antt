@@ -3,12 +3,12 @@ use Rattle.std.specs.Prelude.{Ok, Err}
 use Rattle.term_text.specs.View.{tree_of}
 use Rattle.term_text.proofs.Views.{tree_of-at}
 use Rattle.term_classes.specs.Recurrence.{polynomial_or_refused, coefficient_sought}
-use Rattle.term_classes.specs.Refusals.{improper}
+use Rattle.steps.proofs.AnswerLaws.{first_cause, later_outcome, fault_answer}
+use Rattle.steps.specs.Answers.{HasCause}
+use Rattle.steps.specs.Found.{found}
+use Rattle.steps.specs.TermFaults.{improper, term_cause}
 use Rattle.term_classes.specs.Sought.{polynomial_sought}
 use Rattle.term_classes.specs.Walk.{place_of}
-use Rattle.tree_polynomials.specs.Answers.{HasCause}
-use Rattle.tree_polynomials.specs.Views.{found}
-use Rattle.tree_polynomials.proofs.AnswerLaws.{first_cause, later_outcome, fault_answer}
 use Rattle.tree_polynomials.proofs.PolynomialMeanings.{meaning_of}
 use Rattle.term_walk.proofs.PlacesOfK.{same_place}
 use Rattle.term_walk.proofs.RecurrenceLaws.{k_refused, without_k, polynomial_in_n}
@@ -23,9 +23,9 @@ pub returns-in_err-polynomial : goal.returns-in_err-polynomial
 returns-in_err-polynomial c =
     let t = tree_of c.args.tree.now in
     let fault = c.in_err-polynomial.field-0.0 in record {
-      answers = fault_answer polynomial_in_n (coefficient_sought t) c.from_residual.result fault c.from_residual.ensures.1
-          (subst (λ s. HasCause s fault) (sym (without_k t (same_place None t c.in_default.ensures.least)))
-          (first_cause (polynomial_sought t) (polynomial_or_refused t) fault c.in_err-polynomial.ensures.answers));
+      answers = fault_answer term_cause polynomial_in_n (coefficient_sought t) c.from_residual.result fault c.from_residual.ensures.1
+          (subst (λ s. HasCause s (term_cause fault)) (sym (without_k t (same_place None t c.in_default.ensures.least)))
+          (first_cause (polynomial_sought t) (polynomial_or_refused t) (term_cause fault) c.in_err-polynomial.ensures.answers));
     }
 
 -- no polynomial

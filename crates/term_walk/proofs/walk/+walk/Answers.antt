@@ -7,12 +7,13 @@ use Rattle.term_text.specs.declared.ast.Part.{Part}
 use Rattle.term_text.specs.declared.ast.Node.TheVariants.{Literal, N, K, Sum}
 use Rattle.term_text.proofs.Views.{node_of-literal, node_of-n, node_of-k, node_of-sum}
 use Rattle.term_classes.specs.Walk.{walk}
-use Rattle.tree_polynomials.specs.Answers.{Answers}
-use Rattle.tree_polynomials.specs.Views.{found}
+use Rattle.steps.proofs.Leading.{leads_on}
+use Rattle.steps.specs.Answers.{Answers}
+use Rattle.steps.specs.Found.{found}
+use Rattle.steps.specs.TermFaults.{term_cause}
 use Rattle.term_walk.specs.Views.{gathered_of, wide_form_of}
 use Rattle.term_walk.specs.WalkRows.{zero_exponent, constant, varying, is_one_turned}
 use Rattle.term_walk.proofs.HeldNumbers.{held}
-use Rattle.tree_polynomials.proofs.Leading.{leads_on}
 use Rattle.term_walk.proofs.ArgumentNodes.{pow_refused, pow_answer, same_trees, factorial_answer, binomial_answer}
 use Rattle.term_walk.proofs.NodeRows.{at_node, leaf_answer, product_answer, some_part, one_turned, plain_sum}
 use Rattle.term_walk.proofs.TreeSizes.{tree_size, parts_size, product_smaller, sum_smaller, base_smaller, part_smaller}
@@ -30,7 +31,7 @@ walk_factors-returns-in_err-gathered t c =
     let p = err_from_is_err_and c.from_residual.result c.from_residual.ensures.1 in
     let known = rw c.power_of_part.ensures.power at c.in_err-gathered.ensures.answers in
     rw (p.1, p.2) (record {
-      answers = c.loop-part.invariant.cause c.in_err-gathered.field-0.0 (part_refused c.args.parts.now c.loop-part.part-index c.part-item.result
+      answers = c.loop-part.invariant.cause (term_cause c.in_err-gathered.field-0.0) (part_refused c.args.parts.now c.loop-part.part-index c.part-item.result
           c.args.power.value (gathered_of c.loop-part.gathered) c.in_err-gathered.field-0.0 c.loop-part-test.true c.part-item.is known);
     })
 
@@ -123,7 +124,7 @@ walk_node-returns-in-Constant t c =
     record {
       answers = pow_answer c.args.tree.now c.in-Pow.base c.in-Pow.exponent c.get.result.now c.args.power.value (gathered_of c.args.gathered)
           (constant c.in-Constant.product.value) c.walk_node-in-Constant.result c.in-Pow.is c.get.ensures told
-          (subst (λ a. Answers gathered_of (walk (tree_of a) c.in-Constant.product.value (gathered_of c.args.gathered)) c.walk_node-in-Constant.result)
+          (subst (λ a. Answers term_cause gathered_of (walk (tree_of a) c.in-Constant.product.value (gathered_of c.args.gathered)) c.walk_node-in-Constant.result)
           c.get-in-Constant.ensures c.walk_node-in-Constant.ensures.answers);
     }
 

@@ -2,7 +2,7 @@ use Rattle.std.proofs.Common.{drop}
 use Rattle.term_text.specs.View.{tree_of, parts_of}
 use Rattle.term_classes.specs.Walk.{walk_parts}
 use Rattle.term_walk.specs.Views.{gathered_of}
-use Rattle.tree_polynomials.specs.Leads.{Leads}
+use Rattle.steps.specs.Leads.{Leads}
 use Rattle.term_walk.proofs.TreeSizes.{tree_size, parts_size}
 use Rattle.term_walk.proofs.walk.+walk.Given as goal
 

@@ -5,9 +5,10 @@ use Rattle.term_text.specs.View.{tree_of}
 use Rattle.term_text.proofs.Views.{tree_of-at}
 use Rattle.term_classes.specs.Sought.{polynomial_sought}
 use Rattle.term_classes.specs.Walk.{times_sought, place_of}
-use Rattle.tree_polynomials.proofs.AnswerLaws.{first_cause}
+use Rattle.steps.proofs.AnswerLaws.{first_cause}
+use Rattle.steps.proofs.Leading.{leads_answer}
+use Rattle.steps.specs.TermFaults.{term_cause}
 use Rattle.term_walk.specs.Views.{gathered_of}
-use Rattle.tree_polynomials.proofs.Leading.{leads_answer}
 use Rattle.term_walk.proofs.RowLeads.{sought_leads}
 use Rattle.term_walk.proofs.walk.times_polynomial_of.Goals as goal
 
@@ -17,7 +18,7 @@ returns-in_err-polynomial c =
     let p = err_from_is_err_and c.from_residual.result c.from_residual.ensures.1 in
     rw (p.1, p.2) (record {
       answers = first_cause (polynomial_sought (tree_of c.args.tree.now))
-          (times_sought (place_of (tree_of c.args.tree.now)) c.args.power (gathered_of c.args.gathered)) c.in_err-polynomial.field-0.0
+          (times_sought (place_of (tree_of c.args.tree.now)) c.args.power (gathered_of c.args.gathered)) (term_cause c.in_err-polynomial.field-0.0)
           c.in_err-polynomial.ensures.answers;
     })
 
@@ -26,7 +27,7 @@ pub returns : goal.returns
 returns c =
     let known = rw (to_z-of_z w64 c.args.power c.ranges.power) at c.times_sought.ensures.answers in
     record {
-      answers = leads_answer gathered_of c.times_sought.result
+      answers = leads_answer term_cause gathered_of c.times_sought.result
           (sought_leads (tree_of c.args.tree.now) c.args.tree.now.at c.args.power (gathered_of c.args.gathered) _
           (ap place_of (tree_of-at c.args.tree.now)) c.in_ok-polynomial.ensures.answers) known;
     }

@@ -2,13 +2,15 @@ use Rattle.std.proofs.Common.{◌+◌, ◌*◌, drop, subst}
 use Rattle.hypergeometric.specs.Fraction.{Fraction, fraction_product}
 use Rattle.term_classes.specs.Divisors.{size_of_top, size_of_bottom}
 use Rattle.term_classes.specs.Sought.{factor_fraction, product_of_fractions, top_sizes, bottom_sizes}
-use Rattle.term_classes.specs.Steps.{makes, of_fraction}
-use Rattle.term_classes.proofs.StepLaws.{same_Ok}
+use Rattle.steps.proofs.AnswerLaws.{fault_answer}
+use Rattle.steps.proofs.LargerCounterparts.{larger_cause}
+use Rattle.steps.proofs.StepLaws.{same_Ok}
+use Rattle.steps.specs.Operations.{of_fraction}
+use Rattle.steps.specs.Steps.{makes}
+use Rattle.steps.specs.TermFaults.{term_cause}
 use Rattle.tree_polynomials.specs.Factors.{factor_of, factors_of}
 use Rattle.tree_polynomials.specs.Views.{fraction_value}
 use Rattle.tree_polynomials.proofs.FactorProducts.{IsLeft, left_at, one_less, next_in_bounds}
-use Rattle.tree_polynomials.proofs.AnswerLaws.{fault_answer}
-use Rattle.tree_polynomials.proofs.LargerCounterparts.{larger_cause}
 use Rattle.tree_polynomials.proofs.factors.product_of.Goals as goal
 
 -- one more factor
@@ -34,10 +36,10 @@ returns-in_err-product c =
     let left = left_at done c.args.factors.now c.loop-factor.factor-index c.factor-item.result c.loop-factor-test.true c.factor-item.is
     c.loop-factor.invariant in
     record {
-      answers = fault_answer fraction_value (makes c.args.at (of_fraction (top_sizes all) (bottom_sizes all)) (product_of_fractions all))
+      answers = fault_answer term_cause fraction_value (makes c.args.at (of_fraction (top_sizes all) (bottom_sizes all)) (product_of_fractions all))
           c.from_residual.result c.in_err-product.field-0.0 c.from_residual.ensures.1
           (larger_cause c.args.at
           (of_fraction (size_of_top done * size_of_top (factor_fraction x)) (size_of_bottom done * size_of_bottom (factor_fraction x)))
           (of_fraction (top_sizes all) (bottom_sizes all)) (fraction_product done (factor_fraction x)) (product_of_fractions all)
-          c.in_err-product.field-0.0 (next_in_bounds done x rest all left) c.in_err-product.ensures.answers);
+          (term_cause c.in_err-product.field-0.0) (next_in_bounds done x rest all left) c.in_err-product.ensures.answers);
     }

@@ -3,7 +3,7 @@ use Rattle.std.specs.Prelude.{◌*ℤ◌}
 use Rattle.std.proofs.Math.IntN.{pow}
 use Rattle.ring_laws.specs.Wholes.{is_zero}
 use Rattle.hypergeometric.proofs.FractionLaws.{product_not_zero}
-use Rattle.term_classes.proofs.StepLaws.{same_Ok}
+use Rattle.steps.proofs.StepLaws.{same_Ok}
 use Rattle.tree_polynomials.proofs.NumberPowers.{pow_not_zero}
 use Rattle.tree_polynomials.proofs.fractions.times_natural_power.Goals as goal
 

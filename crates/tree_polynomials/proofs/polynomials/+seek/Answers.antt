@@ -3,10 +3,11 @@ use Rattle.std.specs.Result.{is_ok}
 use Rattle.lin_form.proofs.Items.{each_of}
 use Rattle.term_text.specs.View.{tree_of, parts_of}
 use Rattle.term_classes.specs.Sought.{polynomial_sought, summands_sought, factors_sought}
-use Rattle.tree_polynomials.specs.Views.{found}
-use Rattle.tree_polynomials.proofs.AnswerLaws.{fault_answer}
+use Rattle.steps.proofs.AnswerLaws.{fault_answer}
+use Rattle.steps.proofs.PartsSought.{Continues}
+use Rattle.steps.specs.Found.{found}
+use Rattle.steps.specs.TermFaults.{term_cause}
 use Rattle.tree_polynomials.proofs.NodesSought.{same_answer, literal_sought, n_sought, k_sought, sum_answer, product_answer, some_found, none_found}
-use Rattle.tree_polynomials.proofs.PartsSought.{Continues}
 use Rattle.tree_polynomials.proofs.PolynomialMeanings.{meaning_of}
 use Rattle.tree_polynomials.proofs.PolynomialParts.{summand_done, summand_none, summand_fault, factor_done, factor_none, factor_fault, summands_done, factors_done, pushed}
 use Rattle.tree_polynomials.proofs.PowersSought.{constant_exponent, exponent_fault, exponent_none, base_fault, base_raised}
@@ -49,7 +50,7 @@ polynomial_of_tree-returns-in_ok-factors-in-Product t c = record {
 -- a power
 pub polynomial_of_tree-returns-in_err-power-in-Pow : goal.polynomial_of_tree-returns-in_err-power-in-Pow
 polynomial_of_tree-returns-in_err-power-in-Pow t c = record {
-  answers = fault_answer (found meaning_of) (polynomial_sought (tree_of c.args.tree.now)) c.from_residual-in_err-power-in-Pow.result
+  answers = fault_answer term_cause (found meaning_of) (polynomial_sought (tree_of c.args.tree.now)) c.from_residual-in_err-power-in-Pow.result
       c.in_err-power-in-Pow.field-0.0 c.from_residual-in_err-power-in-Pow.ensures.1
       (exponent_fault c.args.tree.now c.in-Pow.base c.in-Pow.exponent c.in-Pow.is c.get.result.now c.get.ensures c.in_err-power-in-Pow.field-0.0
       c.in_err-power-in-Pow.ensures.exponent);
@@ -63,7 +64,7 @@ polynomial_of_tree-returns-in_default t c = record {
 
 pub polynomial_of_tree-returns-in_err-base-in-Pow : goal.polynomial_of_tree-returns-in_err-base-in-Pow
 polynomial_of_tree-returns-in_err-base-in-Pow t c = record {
-  answers = fault_answer (found meaning_of) (polynomial_sought (tree_of c.args.tree.now)) c.from_residual-in_err-base-in-Pow.result
+  answers = fault_answer term_cause (found meaning_of) (polynomial_sought (tree_of c.args.tree.now)) c.from_residual-in_err-base-in-Pow.result
       c.in_err-base-in-Pow.field-0.0 c.from_residual-in_err-base-in-Pow.ensures.1
       (base_fault c.args.tree.now c.in-Pow.base c.in-Pow.exponent c.in-Pow.is c.get.result.now c.get.ensures c.in_ok-power-in-Pow.field-0 c.in-Some.power
       c.in_ok-power-in-Pow.ensures.exponent c.in-Some.is c.get-in-Pow.result.now c.get-in-Pow.ensures c.in_err-base-in-Pow.field-0.0
@@ -87,7 +88,7 @@ exponent_of-returns t c = record {
 -- the parts of a sum
 pub summands_of-returns-in_err-polynomial : goal.summands_of-returns-in_err-polynomial
 summands_of-returns-in_err-polynomial t c = record {
-  answers = fault_answer (found (λ list. each_of list.items meaning_of)) (summands_sought (parts_of c.args.parts.now)) c.from_residual.result
+  answers = fault_answer term_cause (found (λ list. each_of list.items meaning_of)) (summands_sought (parts_of c.args.parts.now)) c.from_residual.result
       c.in_err-polynomial.field-0.0 c.from_residual.ensures.1
       (summand_fault c.args.parts.now c.loop-part.part-index c.part-item.result _ c.loop-part-test.true c.part-item.is c.loop-part.invariant
       c.in_err-polynomial.field-0.0 c.in_err-polynomial.ensures.answers);
@@ -116,7 +117,7 @@ summands_of-returns t c = record { answers = summands_done c.args.parts.now c.lo
 -- those of a product
 pub factors_of-returns-in_err-factor : goal.factors_of-returns-in_err-factor
 factors_of-returns-in_err-factor t c = record {
-  answers = fault_answer (found (λ list. each_of list.items meaning_of)) (factors_sought (parts_of c.args.parts.now)) c.from_residual.result
+  answers = fault_answer term_cause (found (λ list. each_of list.items meaning_of)) (factors_sought (parts_of c.args.parts.now)) c.from_residual.result
       c.in_err-factor.field-0.0 c.from_residual.ensures.1
       (factor_fault c.args.parts.now c.loop-part.part-index c.part-item.result _ c.loop-part-test.true c.part-item.is c.loop-part.invariant
       c.in_err-factor.field-0.0 c.if-part.false c.in_err-factor.ensures.answers);

@@ -2,7 +2,7 @@ use Rattle.std.proofs.Common.{drop}
 use Rattle.lin_form.proofs.Items.{each_of}
 use Rattle.term_text.specs.View.{parts_of}
 use Rattle.term_classes.specs.Sought.{summands_sought, factors_sought}
-use Rattle.tree_polynomials.proofs.PartsSought.{Continues}
+use Rattle.steps.proofs.PartsSought.{Continues}
 use Rattle.tree_polynomials.proofs.PolynomialMeanings.{meaning_of}
 use Rattle.tree_polynomials.proofs.polynomials.+seek.Given as goal
 

@@ -3,8 +3,10 @@ use Rattle.std.specs.Prelude.{◌*ℤ◌}
 use Rattle.std.proofs.Math.IntN.{pow}
 use Rattle.ring_laws.specs.Wholes.{number_of}
 use Rattle.term_classes.specs.Divisors.{nonzero_size}
-use Rattle.term_classes.specs.Steps.{makes, of_number}
-use Rattle.tree_polynomials.specs.Answers.{HasCause}
+use Rattle.steps.specs.Answers.{HasCause}
+use Rattle.steps.specs.Operations.{of_number}
+use Rattle.steps.specs.Steps.{makes}
+use Rattle.steps.specs.TermFaults.{term_cause}
 use Rattle.tree_polynomials.proofs.NumberPowers.{power_number, power_fault}
 use Rattle.tree_polynomials.proofs.powers.number_times_power.Goals as goal
 
@@ -18,7 +20,7 @@ returns-in-Ok c = record {
 -- the bound that is too large is the counterpart
 pub returns-in-Err : goal.returns-in-Err
 returns-in-Err c = record {
-  answers = subst (HasCause (makes c.args.at (of_number (nonzero_size c.args.product.value * nonzero_size (pow c.args.base.value c.args.power)))
-      (c.args.product.value *ℤ pow c.args.base.value c.args.power))) (sym c.fault_at.ensures.fault)
+  answers = subst (λ fault. HasCause (makes c.args.at (of_number (nonzero_size c.args.product.value * nonzero_size (pow c.args.base.value c.args.power)))
+      (c.args.product.value *ℤ pow c.args.base.value c.args.power)) (term_cause fault)) (sym c.fault_at.ensures.fault)
       (power_fault c.args.at c.args.product.value c.args.base.value c.args.power c.in-Err.fault c.in-Err.ensures.gives);
 }

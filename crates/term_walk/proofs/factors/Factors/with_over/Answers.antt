@@ -5,7 +5,8 @@ use Rattle.lin_form.specs.Forms.{form_of}
 use Rattle.lin_form.specs.ListOf.{list_of}
 use Rattle.term_classes.specs.Walk.{with_lists, few_factors}
 use Rattle.term_classes.proofs.GatheredLists.{total_with}
-use Rattle.tree_polynomials.specs.Answers.{Answers}
+use Rattle.steps.specs.Answers.{Answers}
+use Rattle.steps.specs.TermFaults.{term_cause}
 use Rattle.term_walk.specs.Views.{with_factors}
 use Rattle.term_walk.proofs.factors.Factors.with_over.Goals as goal
 
@@ -17,7 +18,7 @@ within_limit-requires-clause-counted c =
 
 pub returns : goal.returns
 returns c = record {
-  answers = λ f. subst (λ (xs : List Factor). Answers (with_factors f)
+  answers = λ f. subst (λ (xs : List Factor). Answers term_cause (with_factors f)
       (few_factors (with_lists (list_of c.args.self.up).factors (list_of c.args.self.down).factors xs f.guard f)) c.within_limit.result)
       c.in_ok-over.ensures.factors (c.within_limit.ensures.answers f);
 }

@@ -3,12 +3,13 @@ use Rattle.std.specs.Prelude.{◌*ℤ◌, Ok}
 use Rattle.lin_form.specs.Forms.{form_of}
 use Rattle.poly_fraction.specs.FractionOf.{fraction_of}
 use Rattle.term_classes.specs.Walk.{times_power, times_exponential}
-use Rattle.tree_polynomials.specs.Answers.{HasCause}
+use Rattle.steps.proofs.AnswerLaws.{fault_answer}
+use Rattle.steps.specs.Answers.{HasCause}
+use Rattle.steps.specs.TermFaults.{term_cause}
 use Rattle.tree_polynomials.specs.Views.{fraction_value}
 use Rattle.term_walk.specs.Views.{gathered_of}
 use Rattle.term_walk.proofs.CodePowers.{exponent_is}
 use Rattle.term_walk.proofs.LowestFields.{lowest_defined, tested_nonzero, power_lowest}
-use Rattle.tree_polynomials.proofs.AnswerLaws.{fault_answer}
 use Rattle.term_walk.proofs.ScaleSteps.{exponential_given, n_fault, k_fault, scale_fault}
 use Rattle.term_walk.proofs.gathered.Gathered.times_exponential.Goals as goal
 
@@ -19,13 +20,13 @@ returns-in_err-n_base c =
     (record { sfits = c.product-n_power.type_inv }) c.ranges.power
     (record { sfits = c.n_slope.type_inv }) c.product-n_power.ensures.product c.n_slope.ensures.n_slope in
     record {
-      answers = fault_answer gathered_of (times_exponential c.args.at (fraction_value c.args.base.now) (form_of c.args.exponent) c.args.power (gathered_of c.args.self)
+      answers = fault_answer term_cause gathered_of (times_exponential c.args.at (fraction_value c.args.base.now) (form_of c.args.exponent) c.args.power (gathered_of c.args.self)
           )
           c.from_residual.result c.in_err-n_base.field-0.0 c.from_residual.ensures.1
           (n_fault c.args.at (fraction_value c.args.base.now) (form_of c.args.exponent) c.args.power (gathered_of c.args.self)
           c.in_err-n_base.field-0.0
           (subst (λ w. HasCause (times_power c.args.at (fraction_value c.args.self.n_base) (fraction_value c.args.base.now) w)
-          c.in_err-n_base.field-0.0) of_n
+          (term_cause c.in_err-n_base.field-0.0)) of_n
           c.in_err-n_base.ensures.answers));
     }
 
@@ -40,7 +41,7 @@ returns-in_err-k_base c =
     (record { sfits = c.product-k_power.type_inv }) c.ranges.power
     (record { sfits = c.k_slope.type_inv }) c.product-k_power.ensures.product c.k_slope.ensures.k_slope in
     record {
-      answers = fault_answer gathered_of (times_exponential c.args.at (fraction_value c.args.base.now) (form_of c.args.exponent) c.args.power (gathered_of c.args.self)
+      answers = fault_answer term_cause gathered_of (times_exponential c.args.at (fraction_value c.args.base.now) (form_of c.args.exponent) c.args.power (gathered_of c.args.self)
           )
           c.from_residual-in_err-k_base.result c.in_err-k_base.field-0.0 c.from_residual-in_err-k_base.ensures.1
           (k_fault c.args.at (fraction_value c.args.base.now) (form_of c.args.exponent) c.args.power (gathered_of c.args.self)
@@ -49,7 +50,7 @@ returns-in_err-k_base c =
           ≡ Ok (fraction_value c.in_ok-n_base.n_base)) of_n
           c.in_ok-n_base.ensures.answers)
           (subst (λ w. HasCause (times_power c.args.at (fraction_value c.args.self.k_base) (fraction_value c.args.base.now) w)
-          c.in_err-k_base.field-0.0) of_k
+          (term_cause c.in_err-k_base.field-0.0)) of_k
           c.in_err-k_base.ensures.answers));
     }
 
@@ -68,7 +69,7 @@ returns-in_err-scale c =
     (record { sfits = c.product-scale_power.type_inv }) c.ranges.power
     (record { sfits = c.offset.type_inv }) c.product-scale_power.ensures.product c.offset.ensures.offset in
     record {
-      answers = fault_answer gathered_of (times_exponential c.args.at (fraction_value c.args.base.now) (form_of c.args.exponent) c.args.power (gathered_of c.args.self)
+      answers = fault_answer term_cause gathered_of (times_exponential c.args.at (fraction_value c.args.base.now) (form_of c.args.exponent) c.args.power (gathered_of c.args.self)
           )
           c.from_residual-in_err-scale.result c.in_err-scale.field-0.0 c.from_residual-in_err-scale.ensures.1
           (scale_fault c.args.at (fraction_value c.args.base.now) (form_of c.args.exponent) c.args.power (gathered_of c.args.self)
@@ -80,7 +81,7 @@ returns-in_err-scale c =
           ≡ Ok (fraction_value c.in_ok-k_base.k_base)) of_k
           c.in_ok-k_base.ensures.answers)
           (subst (λ w. HasCause (times_power c.args.at (fraction_value c.args.self.scale) (fraction_value c.args.base.now) w)
-          c.in_err-scale.field-0.0) of_scale
+          (term_cause c.in_err-scale.field-0.0)) of_scale
           c.in_err-scale.ensures.answers));
     }
 

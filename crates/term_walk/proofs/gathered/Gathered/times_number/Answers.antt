@@ -5,12 +5,13 @@ use Rattle.hypergeometric.specs.ProperTerm.{IsNonzero}
 use Rattle.poly_fraction.specs.FractionOf.{fraction_of}
 use Rattle.term_classes.specs.Walk.{times_power, times_number}
 use Rattle.term_classes.proofs.WalkRows.{whole_nonzero}
-use Rattle.tree_polynomials.specs.Answers.{HasCause}
+use Rattle.steps.proofs.AnswerLaws.{fault_answer}
+use Rattle.steps.specs.Answers.{HasCause}
+use Rattle.steps.specs.TermFaults.{term_cause}
 use Rattle.tree_polynomials.specs.Views.{fraction_value}
 use Rattle.term_walk.specs.Views.{gathered_of}
 use Rattle.term_walk.proofs.CodePowers.{tested_sign}
 use Rattle.term_walk.proofs.LowestFields.{lowest_defined, power_lowest}
-use Rattle.tree_polynomials.proofs.AnswerLaws.{fault_answer}
 use Rattle.term_walk.proofs.ScaleSteps.{zero_refused, number_given, number_fault}
 use Rattle.term_walk.proofs.gathered.Gathered.times_number.Goals as goal
 use Rattle.term_walk.proofs.gathered.Gathered.times_number.Goals.{then-power-lt0, else-power-lt0}
@@ -32,13 +33,13 @@ pub returns-in_err-scale : goal.returns-in_err-scale
 returns-in_err-scale c =
     let some : c.args.number.value ≢ pos 0 = λ e. c.if-value-eq0.false (omega (arith, ints, e, c.value.ensures.value)) in
     record {
-      answers = fault_answer gathered_of (times_number c.args.at c.args.number.value c.args.power (gathered_of c.args.self))
+      answers = fault_answer term_cause gathered_of (times_number c.args.at c.args.number.value c.args.power (gathered_of c.args.self))
           c.from_residual.result c.in_err-scale.field-0.0 c.from_residual.ensures.1
           (number_fault c.args.at c.args.number.value c.args.power (gathered_of c.args.self) c.in_err-scale.field-0.0 some
-          (subst (λ f. HasCause (times_power c.args.at (fraction_value c.args.self.scale) f c.args.power) c.in_err-scale.field-0.0)
+          (subst (λ f. HasCause (times_power c.args.at (fraction_value c.args.self.scale) f c.args.power) (term_cause c.in_err-scale.field-0.0))
           c.number_fraction.ensures.value
           (subst (λ w. HasCause (times_power c.args.at (fraction_value c.args.self.scale) (fraction_value c.number_fraction.result) w)
-          c.in_err-scale.field-0.0) (to_z-of_z w64 c.args.power c.ranges.power) c.in_err-scale.ensures.answers)));
+          (term_cause c.in_err-scale.field-0.0)) (to_z-of_z w64 c.args.power c.ranges.power) c.in_err-scale.ensures.answers)));
     }
 
 pub invariant_of-result : goal.invariant_of-result

@@ -10,12 +10,13 @@ use Rattle.term_classes.specs.Forms.{content_of_form, primitive_form}
 use Rattle.term_classes.specs.Walk.{with_lists, few_factors, times_power, with_denominator}
 use Rattle.term_classes.proofs.FormValues.{content_not_zero}
 use Rattle.term_classes.proofs.WalkRows.{whole_nonzero}
-use Rattle.tree_polynomials.specs.Answers.{HasCause}
+use Rattle.steps.proofs.AnswerLaws.{fault_answer}
+use Rattle.steps.specs.Answers.{HasCause}
+use Rattle.steps.specs.TermFaults.{term_cause}
 use Rattle.tree_polynomials.specs.Views.{fraction_value}
 use Rattle.term_walk.specs.Views.{gathered_of, with_factors}
 use Rattle.term_walk.proofs.CodePowers.{opposite_is, fraction_is}
 use Rattle.term_walk.proofs.LowestFields.{lowest_defined, power_lowest}
-use Rattle.tree_polynomials.proofs.AnswerLaws.{fault_answer}
 use Rattle.term_walk.proofs.FormContents.{IsContent, content_found, content_fits, some_number}
 use Rattle.term_walk.proofs.ScaleSteps.{denominator_given, more_fault, content_fault}
 use Rattle.term_walk.proofs.gathered.Gathered.with_denominator.Goals as goal
@@ -26,12 +27,12 @@ returns-in_err-factors c =
     let found : IsContent (form_of c.args.form) c.primitive-content.result.0 (form_of c.primitive-content.result.1) =
     content_found (form_of c.args.form) _ _ c.requires.not_zero c.primitive-content.ensures.only in
     record {
-      answers = fault_answer gathered_of (with_denominator c.args.at (form_of c.args.form) c.args.power (gathered_of c.args.self))
+      answers = fault_answer term_cause gathered_of (with_denominator c.args.at (form_of c.args.form) c.args.power (gathered_of c.args.self))
           c.from_residual.result c.in_err-factors.field-0.0 c.from_residual.ensures.1
           (more_fault c.args.at (form_of c.args.form) c.args.power (gathered_of c.args.self) c.in_err-factors.field-0.0
           (subst (λ l. HasCause (few_factors (with_lists (list_of c.args.self.factors.up).factors (list_of c.args.self.factors.down).factors
           (with_factor l c.args.power (list_of c.args.self.factors.over).factors) (gathered_of c.args.self).guard (gathered_of c.args.self)))
-          c.in_err-factors.field-0.0) found.primitive (c.in_err-factors.ensures.answers (gathered_of c.args.self))));
+          (term_cause c.in_err-factors.field-0.0)) found.primitive (c.in_err-factors.ensures.answers (gathered_of c.args.self))));
     }
 
 -- the content isn't 0
@@ -67,13 +68,13 @@ returns-in_err-scale c =
     (with_factor l c.args.power (list_of c.args.self.factors.over).factors) (gathered_of c.args.self).guard (gathered_of c.args.self))).outcome
     ≡ Ok (with_factors (gathered_of c.args.self) c.in_ok-factors.factors)) found.primitive (c.in_ok-factors.ensures.answers (gathered_of c.args.self)) in
     record {
-      answers = fault_answer gathered_of (with_denominator c.args.at (form_of c.args.form) c.args.power (gathered_of c.args.self))
+      answers = fault_answer term_cause gathered_of (with_denominator c.args.at (form_of c.args.form) c.args.power (gathered_of c.args.self))
           c.from_residual-in_err-scale.result c.in_err-scale.field-0.0 c.from_residual-in_err-scale.ensures.1
           (content_fault c.args.at (form_of c.args.form) c.args.power (gathered_of c.args.self)
           (with_factors (gathered_of c.args.self) c.in_ok-factors.factors) c.in_err-scale.field-0.0 few
-          (subst (λ f. HasCause (times_power c.args.at (fraction_value c.args.self.scale) f (neg_ℤ (pos c.args.power))) c.in_err-scale.field-0.0) content
+          (subst (λ f. HasCause (times_power c.args.at (fraction_value c.args.self.scale) f (neg_ℤ (pos c.args.power))) (term_cause c.in_err-scale.field-0.0)) content
           (subst (λ w. HasCause (times_power c.args.at (fraction_value c.args.self.scale) (fraction_value c.number_fraction-content.result) w)
-          c.in_err-scale.field-0.0)
+          (term_cause c.in_err-scale.field-0.0))
           (opposite_is c.from-2.result c.args.power (record { sfits = c.from-2.type_inv }) c.from-2.ensures c.requires.small)
           c.in_err-scale.ensures.answers)));
     }

@@ -1,7 +1,8 @@
-//! Why a tree stands for no term.
+//! Why a tree stands for no term, and why an engine gives no answer.
 
 ghost use Rattle.std.specs.Prelude.{◌≡◌};
-ghost use Rattle.term_faults.specs.Faults.{fault_of};
+ghost use Rattle.steps.specs.TermFaults.{fault_of};
+ghost use Rattle.steps.specs.StepFaults.{step_fault_of};
 
 use crate::limits::LimitName;
 use ring_laws::RingFault;
@@ -34,5 +35,29 @@ pub fn fault_at(at: u32, fault: RingFault) -> TermFault
     match fault {
         RingFault::TooLarge => TermFault::TooLarge { at },
         RingFault::Memory => TermFault::Memory,
+    }
+}
+
+/// Why a step of an engine gives no answer.
+#[derive(Clone, Copy, Debug, PartialEq, Eq, Drop, Error)]
+pub enum StepFault {
+    /// A limit is passed, with what was counted; a count above 2^64 - 1 is carried as 2^64 - 1.
+    #[error("a limit is passed at {counted}")]
+    Limit { name: LimitName, counted: u64 },
+    /// An operation of the arithmetic is out of bounds.
+    #[error("the arithmetic is out of bounds")]
+    TooLarge,
+    /// There is no memory for the answer or for a step to it. This may come in place of any other answer.
+    #[error("no memory")]
+    Memory,
+}
+
+/// A fault of the arithmetic of an engine.
+pub fn step_fault(fault: RingFault) -> StepFault
+    ensures fault { result ≡ step_fault_of fault }
+{
+    match fault {
+        RingFault::TooLarge => StepFault::TooLarge,
+        RingFault::Memory => StepFault::Memory,
     }
 }

@@ -1,0 +1,6 @@
+pub mod StepLaws
+pub mod AnswerLaws
+pub mod LargerCounterparts
+pub mod Leading
+pub mod PartsSought
+pub mod KnownSteps
