@@ -10,5 +10,8 @@ pub mod ProductAnswers
 pub mod SureProducts
 pub mod DivideAnswers
 pub mod DomainAnswers
+pub mod MultipleAnswers
 pub mod StepAnswers
 pub mod EvalAnswers
+pub mod SquaringSteps
+pub mod InnerShiftAnswers

@@ -7,7 +7,7 @@ ghost use Rattle.term_classes.specs.Divisors.{nonzero_size};
 ghost use Rattle.tree_polynomials.specs.Answers.{Answers};
 ghost use Rattle.tree_polynomials.specs.Views.{whole_value};
 
-use lin_form::times_power;
+use poly_generic::times_power;
 use ring_laws::Whole;
 use std::alloc::Global;
 use term_faults::{TermFault, fault_at};
