@@ -8,6 +8,7 @@ pub mod MagnitudeSums
 pub mod SumAnswers
 pub mod ProductAnswers
 pub mod SureProducts
+pub mod EasyProducts
 pub mod DivideAnswers
 pub mod DomainAnswers
 pub mod MultipleAnswers

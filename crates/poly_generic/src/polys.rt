@@ -16,7 +16,7 @@ ghost use Rattle.poly_laws.proofs.Belonging.{value_passes, value_fits};
 use crate::division::{all_zero, divide_lists};
 use crate::evaluation::{shift_of_list, value_of_list};
 use crate::multiples::are_times;
-use crate::lists::{copies, magnitudes, negatives, product_of_lists, same_lists, sums, trim};
+use crate::lists::{copies, magnitudes, negatives, same_lists, sums, trim};
 use ring_laws::{Domain, Ring, RingFault, Whole};
 use std::alloc::Global;
 
@@ -219,11 +219,14 @@ impl<R: Ring> Ring for Poly<R> {
     }
 
     fn mul(&self, alloc: Global, other: &Poly<R>) -> Result<Poly<R>, RingFault> {
-        if !self.is_product_surely_in_bounds(alloc, other) {
-            return self.product_by_magnitudes(alloc, other);
+        if self.list.is_empty() || other.list.is_empty() {
+            return Poly::zero(alloc);
         }
-        let list = product_of_lists(alloc, &self.list, &other.list)?;
-        Poly::from_coefficients(list)
+        if self.list.len() <= other.list.len() {
+            self.product(alloc, other)
+        } else {
+            other.product(alloc, self)
+        }
     }
 
     fn is_zero(&self) -> bool {
