@@ -9,9 +9,10 @@ use Rattle.poly_laws.specs.Values.{level}
 use Rattle.poly_laws.proofs.Coefficients.{meanings-trimmed, trimmed_passes}
 use Rattle.poly_laws.proofs.Equal.{level_laws}
 use Rattle.hypergeometric.specs.LinearForm.{LinearForm, Factor, FactorList}
-use Rattle.lin_form.specs.Products.{power_in, nonzero_magnitude, form_polynomial, forms_polynomial, forms_counterpart, list_polynomial, IsBound}
-use Rattle.lin_form.proofs.Bounds.{bounded_unit, bounded_product, bounded_power, bounded_self}
-use Rattle.lin_form.proofs.Squaring.{power_first, magnitude_first}
+use Rattle.poly_laws.specs.Powers.{power_in, nonzero_magnitude, IsBound}
+use Rattle.lin_form.specs.Products.{form_polynomial, forms_polynomial, forms_counterpart, list_polynomial}
+use Rattle.poly_laws.proofs.PowerBounds.{bounded_unit, bounded_product, bounded_power, bounded_self}
+use Rattle.poly_laws.proofs.Squaring.{power_first, magnitude_first}
 
 -- the laws of the polynomials in k and n, and their operations
 abbrev pub laws : Laws (level 2)

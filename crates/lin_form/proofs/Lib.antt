@@ -3,11 +3,7 @@ pub mod Shifts
 pub mod Signs
 pub mod PrimitiveForms
 pub mod OnlyPrimitive
-pub mod Powers
-pub mod Bounds
 pub mod Lookups
-pub mod Squaring
-pub mod SquaringSteps
 pub mod FormPolynomials
 pub mod ListProducts
 pub mod ListValues

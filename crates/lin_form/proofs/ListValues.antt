@@ -12,7 +12,8 @@ use Rattle.poly_laws.proofs.Keeps.{of_list, whole_keeps, value_at_keeps}
 use Rattle.hypergeometric.specs.Point.{Point, values, values_in_n}
 use Rattle.hypergeometric.specs.LinearForm.{LinearForm, Factor, FactorList, form_value, forms_value, factor_list_value}
 use Rattle.hypergeometric.specs.ProperTerm.{poly_value}
-use Rattle.lin_form.specs.Products.{power_in, form_polynomial, forms_polynomial, list_polynomial}
+use Rattle.poly_laws.specs.Powers.{power_in}
+use Rattle.lin_form.specs.Products.{form_polynomial, forms_polynomial, list_polynomial}
 
 nested : (c s t n k : ℤ) → c +ℤ n *ℤ (s +ℤ n *ℤ pos 0) +ℤ k *ℤ (t +ℤ k *ℤ pos 0) ≡ s *ℤ n +ℤ t *ℤ k +ℤ c
 nested c s t n k = ring_z (c ∷ s ∷ t ∷ n ∷ k ∷ []) (search reading_z depth 40 fits 20000) refl

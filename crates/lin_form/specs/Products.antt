@@ -1,22 +1,11 @@
 -- The polynomial that a product of forms is, and when it is in bounds: where the product of the magnitudes of the factors that
 -- aren't zero fits. Every order of multiplying is then in bounds, since magnitudes of at least 1 only grow.
-use Rattle.std.specs.Prelude.{◌≡◌, ℕ, zero, suc, cond, List, [], ◌∷◌, Result, Ok, Err}
+use Rattle.std.specs.Prelude.{List, [], ◌∷◌}
 use Rattle.ring_laws.specs.Meaning.{Meaning, number, listed}
-use Rattle.ring_laws.specs.Algebra.{Ops, Algebra, Passing}
-use Rattle.ring_laws.specs.Answer.{OnFault}
-use Rattle.ring_laws.specs.declared.faults.RingFault.{RingFault}
 use Rattle.poly_laws.specs.Lists.{trimmed}
+use Rattle.poly_laws.specs.Powers.{power_in, nonzero_magnitude}
 use Rattle.poly_laws.specs.Values.{level}
 use Rattle.hypergeometric.specs.LinearForm.{LinearForm, Factor, FactorList}
-
--- x as often as the power says
-abbrev pub power_in : {A : Type 0} → Ops A → A → ℕ → A
-power_in o x zero = o.unit
-power_in o x (suc n) = o.product x (power_in o x n)
-
--- the magnitude, and one for zero
-abbrev pub nonzero_magnitude : {A : Type 0} → Ops A → A → A
-nonzero_magnitude o x = cond (o.is_nought x) o.unit (o.magnitude x)
 
 -- the form as a polynomial in k over those in n
 abbrev pub form_polynomial : LinearForm → Meaning
@@ -41,14 +30,3 @@ forms_counterpart (x ∷ xs) = (level 2).ops.product (power_in (level 2).ops (no
 -- the product of the scale and all forms, as one operation, is in bounds
 abbrev pub ListInBounds : FactorList → Type 0
 ListInBounds l = (level 2).ops.Fits ((level 2).ops.product (nonzero_magnitude (level 2).ops ((level 2).ops.whole l.scale)) (forms_counterpart l.factors))
-
--- a magnitude, not zero, that is at least that of m
-pub record IsBound (a : Algebra) (bound : Passing a) (m : Meaning) : Type 0 where
-  pub covers : a.ops.Covers bound.0 (a.ops.magnitude m)
-  pub magnitude : a.ops.magnitude bound.0 ≡ bound.0
-  pub not_zero : ¬ (bound.0 ≡ a.ops.nought)
-
--- m times f; `TooLarge` comes only where no bound of m times the bound of f fits
-abbrev pub GivesTimes : {T : Type 0} → (T → Meaning) → Algebra → Meaning → Meaning → Meaning → Result T RingFault → Type 0
-GivesTimes meaning a m f bound (Ok r) = meaning r ≡ a.ops.product m f
-GivesTimes meaning a m f bound (Err fault) = OnFault ((b : Passing a) → IsBound a b m → ¬ a.ops.Fits (a.ops.product b.0 bound)) fault

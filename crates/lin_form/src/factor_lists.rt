@@ -5,9 +5,9 @@ ghost use Rattle.lin_form.specs.FactorLists.{factors_of};
 ghost use Rattle.lin_form.specs.OneProof.{factors_once};
 
 use crate::forms::LinForm;
-use crate::products::{polynomial_of, times_power};
+use crate::products::polynomial_of;
 use indexmap::IndexMap;
-use poly_generic::Znk;
+use poly_generic::{Znk, times_power};
 use ring_laws::{Ring, RingFault, Whole};
 use std::alloc::Global;
 
@@ -34,7 +34,9 @@ impl FactorList {
     ghost use Rattle.lin_form.specs.Forms.{form_of};
     ghost use Rattle.lin_form.specs.FactorLists.{factor_with, power_of, with_factor};
     ghost use Rattle.lin_form.specs.ListOf.{list_of};
-    ghost use Rattle.lin_form.specs.Products.{power_in, nonzero_magnitude, form_polynomial, list_polynomial, ListInBounds, GivesTimes};
+    ghost use Rattle.poly_laws.specs.Powers.{power_in, nonzero_magnitude};
+    ghost use Rattle.poly_generic.specs.PowerAnswer.{GivesTimes};
+    ghost use Rattle.lin_form.specs.Products.{form_polynomial, list_polynomial, ListInBounds};
 
     /// The list of scale 1 and no form. It takes memory only later.
     pub fn new(alloc: Global) -> Result<FactorList, RingFault>

@@ -1,7 +1,8 @@
 -- The content of a list from that of its parts.
-use Rattle.std.proofs.Common.{◌≡◌, ℕ, ◌+◌, ◌<◌, List, [], ◌∷◌, ◌++◌, map, drop, length, unsigned_abs, get_or, sym, ap, ◌∙◌, subst, arith}
+use Rattle.std.proofs.Common.{◌≡◌, ℕ, zero, suc, refl, ◌+◌, ◌<◌, List, [], ◌∷◌, ◌++◌, map, drop, length, unsigned_abs, get_or, sym, ap, ◌∙◌, subst, arith}
 use Rattle.std.specs.Int.{◌∣◌, IsGcd}
 use Rattle.std.proofs.lemmas.Nat.Gcd.{dvd-zero, dvd_trans}
+use Rattle.std.proofs.Math.Nat.{one-dvd}
 use Rattle.std.proofs.lemmas.List.{length-map, drop_more, get_or-map}
 use Rattle.ring_laws.specs.Meaning.{Meaning, items}
 use Rattle.ring_laws.specs.Algebra.{Ops}
@@ -64,3 +65,38 @@ row_step meaning row at_ f b c g p e h k s =
     let d : map meaning (drop at_ row) ≡ meaning f ∷ map meaning (drop (at_ + 1) row) =
     ap (map meaning) (drop_more row at_ f p) ∙ ap (λ t. meaning t ∷ map meaning (drop (at_ + 1) row)) (sym e) in
     subst (λ z. IsContent (row_sizes z) g) (sym d) (content_joined (sizes_of (meaning f)) (row_sizes (map meaning (drop (at_ + 1) row))) b c g h k s)
+
+-- what divides all divides what is left behind a place
+all_left : (d : ℕ) (xs : List ℕ) (i : ℕ) → DividesAll d xs → DividesAll d (drop i xs)
+all_left d xs zero h = h
+all_left d [] (suc i) h = tt
+all_left d (x ∷ xs) (suc i) h = all_left d xs i h.1
+
+all_left_of_row : (d : ℕ) (ms : List Meaning) (i : ℕ) → DividesAll d (row_sizes ms) → DividesAll d (row_sizes (drop i ms))
+all_left_of_row d ms zero h = h
+all_left_of_row d [] (suc i) h = tt
+all_left_of_row d (m ∷ ms) (suc i) h = all_left_of_row d ms i (all_parts d (sizes_of m) (row_sizes ms) h).1
+
+all_by_one : (xs : List ℕ) → DividesAll 1 xs
+all_by_one [] = tt
+all_by_one (x ∷ xs) = (one-dvd x, all_by_one xs)
+
+-- where the numbers from a place on have content 1, so have all
+pub content_seen : (xs : List ℕ) (i c : ℕ) → c ≡ 1 → IsContent (drop i xs) c → IsContent xs c
+content_seen xs i c e h = subst (IsContent xs) (sym e) (record {
+  divides = all_by_one xs;
+  greatest = λ d s. subst (λ z. d ∣ z) e (h.greatest d (all_left d xs i s));
+})
+
+pub row_seen : {T : Type 0} (meaning : T → Meaning) (row : List T) (i c : ℕ) → c ≡ 1
+    → IsContent (row_sizes (map meaning (drop i row))) c → IsContent (row_sizes (map meaning row)) c
+row_seen meaning row i c e h = subst (IsContent (row_sizes (map meaning row))) (sym e) (record {
+  divides = all_by_one (row_sizes (map meaning row));
+  greatest = λ d s. subst (λ z. d ∣ z) e (h.greatest d (subst (λ ms. DividesAll d (row_sizes ms)) (sym (map_drop meaning row i))
+      (all_left_of_row d (map meaning row) i s)));
+})
+  where
+    map_drop : {A B : Type 0} (f : A → B) (xs : List A) (i : ℕ) → map f (drop i xs) ≡ drop i (map f xs)
+    map_drop f xs zero = refl
+    map_drop f [] (suc i) = refl
+    map_drop f (x ∷ xs) (suc i) = map_drop f xs i

@@ -15,7 +15,7 @@ fn content_of(f: &Zn) -> u128
         Some(degree) => degree + 1,
         None => 0,
     };
-    while power > 0 {
+    while power > 0 && content != 1 {
         power -= 1;
         if let Some(item) = f.coefficient(power) {
             content = gcd_whole(item.value().unsigned_abs(), content);
@@ -30,7 +30,7 @@ pub fn whole_content(row: &[Zn]) -> u128
 {
     let mut content: u128 = 0;
     let mut at = row.len();
-    while at > 0 {
+    while at > 0 && content != 1 {
         at -= 1;
         content = gcd_whole(content_of(&row[at]), content);
     }

@@ -11,6 +11,11 @@ abbrev pub GivesFraction : {T : Type 0} → (T → RingFraction) → Type 0 → 
 GivesFraction fraction InBounds f (Ok r) = InBounds × (fraction r ≡ f)
 GivesFraction fraction InBounds f (Err fault) = OnFault (¬ InBounds) fault
 
+-- this fraction, or no memory
+abbrev pub MakesFraction : {T : Type 0} → (T → RingFraction) → RingFraction → Result T RingFault → Type 0
+MakesFraction fraction f (Ok r) = fraction r ≡ f
+MakesFraction fraction f (Err fault) = OnFault ⊥ fault
+
 -- whether P holds, where the operation is in bounds, `TooLarge` where it isn't, or no memory
 abbrev pub TellsInBounds : Type 0 → Type 0 → Result Bool RingFault → Type 0
 TellsInBounds InBounds P (Ok b) = InBounds × (IsTrue b ↔ P)

@@ -1,5 +1,5 @@
 -- Fractions over a ring: their sum, difference and product as taught, when two are the same, and when an operation is in bounds.
-use Rattle.std.specs.Prelude.{◌≡◌}
+use Rattle.std.specs.Prelude.{◌≡◌, ℤ, IsTrue, IsFalse}
 use Rattle.ring_laws.specs.Meaning.{Meaning}
 use Rattle.ring_laws.specs.Algebra.{Ops, Algebra, ProductInBounds}
 
@@ -29,6 +29,19 @@ product_of_fractions o f g = record { top = o.product f.top g.top; bottom = o.pr
 -- a/b and c/d are the same where a*d = c*b
 abbrev pub AreSame : Ops Meaning → RingFraction → RingFraction → Type 0
 AreSame o f g = o.product f.top g.bottom ≡ o.product g.top f.bottom
+
+-- both parts belong to the ring, and the denominator isn't zero
+pub record IsFraction (a : Algebra) (f : RingFraction) : Type 0 where
+  pub top : IsTrue (a.passes f.top)
+  pub bottom : IsTrue (a.passes f.bottom)
+  pub nonzero : IsFalse (a.ops.is_nought f.bottom)
+
+-- the whole number w as w/1, and -(a/b) as (-a)/b
+abbrev pub whole_fraction : Ops Meaning → ℤ → RingFraction
+whole_fraction o w = record { top = o.whole w; bottom = o.unit }
+
+abbrev pub negative_fraction : Ops Meaning → RingFraction → RingFraction
+negative_fraction o f = record { top = o.neg f.top; bottom = f.bottom }
 
 -- each number replaced by its absolute value
 abbrev pub magnitude_of_fraction : Ops Meaning → RingFraction → RingFraction

@@ -3,7 +3,7 @@
 ghost use Rattle.std.specs.Prelude.{IsFalse};
 
 use crate::products::{difference_of_products, sum_of_products};
-use ring_laws::{Domain, RingFault};
+use ring_laws::{Domain, RingFault, Whole};
 use std::alloc::Global;
 
 /// A fraction over a domain: a numerator and a denominator that isn't zero, not reduced.
@@ -16,9 +16,9 @@ pub struct Frac<R: Domain> {
 
 impl<R: Domain> Frac<R> {
     ghost use Rattle.std.specs.Prelude.{◌≡◌, ◌↔◌, IsTrue, IsFalse, IsNone, IfSome};
-    ghost use Rattle.poly_fraction.specs.Fractions.{sum_of_fractions, difference_of_fractions, product_of_fractions};
+    ghost use Rattle.poly_fraction.specs.Fractions.{sum_of_fractions, difference_of_fractions, product_of_fractions, whole_fraction, negative_fraction};
     ghost use Rattle.poly_fraction.specs.Fractions.{AreSame, FractionSumInBounds, FractionProductInBounds, CrossProductsInBounds};
-    ghost use Rattle.poly_fraction.specs.FractionAnswer.{GivesFraction, TellsInBounds};
+    ghost use Rattle.poly_fraction.specs.FractionAnswer.{GivesFraction, MakesFraction, TellsInBounds};
     ghost use Rattle.poly_fraction.specs.FractionOf.{fraction_of};
 
     /// The fraction of a numerator and a denominator, `None` exactly where the denominator is zero. It takes no memory.
@@ -32,6 +32,33 @@ impl<R: Domain> Frac<R> {
         } else {
             Some(Frac { top, bottom })
         }
+    }
+
+    /// The whole number over 1.
+    pub fn whole(alloc: Global, value: Whole) -> Result<Frac<R>, RingFault>
+        ensures makes { MakesFraction fraction_of (whole_fraction R.algebra.ops value.value) result }
+    {
+        let top = R::whole(alloc, value)?;
+        let bottom = R::one(alloc)?;
+        Ok(Frac { top, bottom })
+    }
+
+    /// A second fraction with the same numerator and denominator.
+    pub fn duplicate(&self, alloc: Global) -> Result<Frac<R>, RingFault>
+        ensures makes { MakesFraction fraction_of (fraction_of self.now) result }
+    {
+        let top = self.top.duplicate(alloc)?;
+        let bottom = self.bottom.duplicate(alloc)?;
+        Ok(Frac { top, bottom })
+    }
+
+    /// The negative of a/b: `(-a)/b`.
+    pub fn neg(&self, alloc: Global) -> Result<Frac<R>, RingFault>
+        ensures makes { MakesFraction fraction_of (negative_fraction R.algebra.ops (fraction_of self.now)) result }
+    {
+        let top = self.top.neg(alloc)?;
+        let bottom = self.bottom.duplicate(alloc)?;
+        Ok(Frac { top, bottom })
     }
 
     /// The numerator.

@@ -37,6 +37,16 @@ fn sums_differences_and_products(rt: HostRuntime) -> Result<(), RingFault> {
 }
 
 #[test]
+fn wholes_copies_and_negatives(rt: HostRuntime) -> Result<(), RingFault> {
+    let alloc = rt.alloc();
+    assert!(rt; is(&Frac::whole(alloc, number(-7)?)?, -7, 1));
+    let half = fraction(1, -2)?;
+    assert!(rt; is(&half.duplicate(alloc)?, 1, -2));
+    assert!(rt; is(&half.neg(alloc)?, -1, -2));
+    Ok(())
+}
+
+#[test]
 fn lowest_terms(rt: HostRuntime) -> Result<(), RingFault> {
     for (top, bottom, lowest_top, lowest_bottom) in [
         (2, 6, 1, 3),

@@ -105,3 +105,9 @@ module _ {T : Type 0} (a : Algebra) (l : Laws a) (meaning : T → Meaning)
   shift_given mean t by_ xs bound size sizes zs (Err fault) w e f short b z h =
       let n : length zs ≡ length xs = ap length z ∙ length-list_shift a.ops (meaning t) (m xs) ∙ length-map xs meaning in
       fault_weaker fault (λ k. absurd (k (omega (arith, length-trimmed a.ops zs, n, short)))) h
+
+-- a shift by the same number
+pub shift_number : {Q : Type 0} (a : Algebra) (mean : Q → Meaning) (v w : ℤ) (m : Meaning) (r : Result Q RingFault) → v ≡ w
+    → GivesInBounds mean (ListShiftInBounds a (a.ops.whole v) (items m)) (poly_shift a.ops v m) r
+    → GivesInBounds mean (ListShiftInBounds a (a.ops.whole w) (items m)) (poly_shift a.ops w m) r
+shift_number a mean v w m r e h = subst (λ z. GivesInBounds mean (ListShiftInBounds a (a.ops.whole z) (items m)) (poly_shift a.ops z m) r) e h

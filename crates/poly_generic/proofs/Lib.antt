@@ -8,7 +8,11 @@ pub mod MagnitudeSums
 pub mod SumAnswers
 pub mod ProductAnswers
 pub mod SureProducts
+pub mod EasyProducts
 pub mod DivideAnswers
 pub mod DomainAnswers
+pub mod MultipleAnswers
 pub mod StepAnswers
 pub mod EvalAnswers
+pub mod SquaringSteps
+pub mod InnerShiftAnswers

@@ -48,13 +48,11 @@ pub same_iff : (b : Bool) (ms ns : List Meaning) → (IsTrue b ↔ (ms ≡ ns)) 
 same_iff b ms ns h = ((λ t. ap listed (h.0 t)), (λ e. h.1 (listed_same ms ns e)))
 
 -- two lists with one place at which they differ, and two that agree as far as they go
-pub apart : {T : Type 0} (meaning : T → Meaning) (xs ys : List T) (i : ℕ) (x y : T) → i < length xs → i < length ys → x ≡ get_or xs i x
-    → y ≡ get_or ys i y → ¬ (meaning x ≡ meaning y) → ¬ (map meaning xs ≡ map meaning ys)
-apart meaning xs ys i x y p q e f n h =
-    n (ap meaning e ∙ sym (get_or-map meaning xs i x (meaning x) p) ∙ ap (λ t. get_or t i (meaning x)) h ∙ get_or-map meaning ys i y (meaning x) q
-    ∙ sym (ap meaning f))
+pub apart : {T : Type 0} (f g : T → Meaning) (xs ys : List T) (i : ℕ) (x y : T) → i < length xs → i < length ys → x ≡ get_or xs i x
+    → y ≡ get_or ys i y → ¬ (f x ≡ g y) → ¬ (map f xs ≡ map g ys)
+apart f g xs ys i x y p q e h n is =
+    n (ap f e ∙ sym (get_or-map f xs i x (f x) p) ∙ ap (λ t. get_or t i (f x)) is ∙ get_or-map g ys i y (f x) q ∙ sym (ap g h))
 
-pub one_more : {T : Type 0} (meaning : T → Meaning) (xs ys : List T) (i : ℕ) (x y : T) → i < length xs → i < length ys → x ≡ get_or xs i x
-    → y ≡ get_or ys i y → meaning x ≡ meaning y → map meaning (take i xs) ≡ map meaning (take i ys)
-    → map meaning (take (i + 1) xs) ≡ map meaning (take (i + 1) ys)
-one_more meaning xs ys i x y p q e f s h = cc (map_more meaning xs i x p, map_more meaning ys i y q, ap meaning e, ap meaning f, s, h)
+pub one_more : {T : Type 0} (f g : T → Meaning) (xs ys : List T) (i : ℕ) (x y : T) → i < length xs → i < length ys → x ≡ get_or xs i x
+    → y ≡ get_or ys i y → f x ≡ g y → map f (take i xs) ≡ map g (take i ys) → map f (take (i + 1) xs) ≡ map g (take (i + 1) ys)
+one_more f g xs ys i x y p q e h s is = cc (map_more f xs i x p, map_more g ys i y q, ap f e, ap g h, s, is)

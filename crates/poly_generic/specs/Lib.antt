@@ -1,2 +1,3 @@
 pub mod ListAnswer
 pub mod MagnitudeSum
+pub mod PowerAnswer

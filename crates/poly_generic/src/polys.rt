@@ -5,16 +5,18 @@ ghost use Rattle.ring_laws.specs.Meaning.{Meaning, listed, items};
 ghost use Rattle.ring_laws.specs.Answer.{Gives, GivesInBounds};
 ghost use Rattle.poly_laws.specs.Lists.{coefficient_at, trimmed, is_trimmed};
 ghost use Rattle.poly_laws.specs.Evaluation.{list_value, ValueInBounds};
-ghost use Rattle.poly_laws.specs.Shift.{poly_shift, ListShiftInBounds};
+ghost use Rattle.poly_laws.specs.Shift.{poly_shift, ListShiftInBounds, inner_shift, InnerShiftInBounds};
 ghost use Rattle.poly_laws.specs.LongDivision.{DivisionInBounds};
 ghost use Rattle.poly_laws.specs.PolyAlgebra.{poly_algebra};
 ghost use Rattle.poly_laws.proofs.PolyDomain.{poly_domain};
 ghost use Rattle.poly_laws.proofs.PolyMagnitudes.{poly_laws};
+ghost use Rattle.poly_generic.specs.ListAnswer.{GivesListInBounds};
 ghost use Rattle.poly_laws.proofs.Belonging.{value_passes, value_fits};
 
 use crate::division::{all_zero, divide_lists};
 use crate::evaluation::{shift_of_list, value_of_list};
-use crate::lists::{copies, magnitudes, negatives, product_of_lists, same_lists, sums, trim};
+use crate::multiples::are_times;
+use crate::lists::{copies, magnitudes, negatives, same_lists, sums, trim};
 use ring_laws::{Domain, Ring, RingFault, Whole};
 use std::alloc::Global;
 
@@ -109,9 +111,15 @@ impl<R: Ring> Poly<R> {
             (ListShiftInBounds R.algebra (R.algebra.ops.whole by) (items (⟦<Poly<R> as Ring>⟧.meaning self.now)))
             (poly_shift R.algebra.ops by (⟦<Poly<R> as Ring>⟧.meaning self.now)) result }
     {
-        let Some(by) = Whole::new(i128::from(by)) else {
-            return Err(RingFault::TooLarge);
-        };
+        self.shifted(alloc, Whole::from(by))
+    }
+
+    // The same by a number of any size.
+    fn shifted(&self, alloc: Global, by: Whole) -> Result<Poly<R>, RingFault>
+        ensures gives { GivesInBounds ⟦<Poly<R> as Ring>⟧.meaning
+            (ListShiftInBounds R.algebra (R.algebra.ops.whole by.value) (items (⟦<Poly<R> as Ring>⟧.meaning self.now)))
+            (poly_shift R.algebra.ops by.value (⟦<Poly<R> as Ring>⟧.meaning self.now)) result }
+    {
         let by = R::whole(alloc, by)?;
         let sizes = magnitudes(alloc, &self.list)?;
         let size = by.magnitude(alloc)?;
@@ -119,6 +127,34 @@ impl<R: Ring> Poly<R> {
         let list = shift_of_list(alloc, &self.list, &by)?;
         Poly::from_coefficients(list)
     }
+}
+
+impl<R: Ring> Poly<Poly<R>> {
+    /// The polynomial at its second variable plus a number: each coefficient is shifted.
+    ///
+    /// `TooLarge` comes exactly where some number of the shift of the magnitudes doesn't fit.
+    pub fn shift_inner_by(&self, alloc: Global, by: i64) -> Result<Poly<Poly<R>>, RingFault>
+        ensures gives { GivesInBounds ⟦<Poly<Poly<R>> as Ring>⟧.meaning
+            (InnerShiftInBounds R.algebra (R.algebra.ops.whole by) (items (⟦<Poly<Poly<R>> as Ring>⟧.meaning self.now)))
+            (inner_shift R.algebra.ops by (⟦<Poly<Poly<R>> as Ring>⟧.meaning self.now)) result }
+    {
+        let list = shifts(alloc, &self.list, Whole::from(by))?;
+        Poly::from_coefficients(list)
+    }
+}
+
+// Each polynomial at its variable plus a number.
+fn shifts<R: Ring>(alloc: Global, list: &[Poly<R>], by: Whole) -> Result<Vec<Poly<R>>, RingFault>
+    ensures { GivesListInBounds ⟦<Poly<R> as Ring>⟧.meaning
+        (InnerShiftInBounds R.algebra (R.algebra.ops.whole by.value) (map ⟦<Poly<R> as Ring>⟧.meaning list.now))
+        (map (poly_shift R.algebra.ops by.value) (map ⟦<Poly<R> as Ring>⟧.meaning list.now)) result }
+{
+    let mut out = Vec::new(alloc);
+    for item in list {
+        let shifted = item.shifted(alloc, by)?;
+        out.push(shifted)?;
+    }
+    Ok(out)
 }
 
 // The polynomial of one coefficient.
@@ -183,11 +219,14 @@ impl<R: Ring> Ring for Poly<R> {
     }
 
     fn mul(&self, alloc: Global, other: &Poly<R>) -> Result<Poly<R>, RingFault> {
-        if !self.is_product_surely_in_bounds(alloc, other) {
-            return self.product_by_magnitudes(alloc, other);
+        if self.list.is_empty() || other.list.is_empty() {
+            return Poly::zero(alloc);
         }
-        let list = product_of_lists(alloc, &self.list, &other.list)?;
-        Poly::from_coefficients(list)
+        if self.list.len() <= other.list.len() {
+            self.product(alloc, other)
+        } else {
+            other.product(alloc, self)
+        }
     }
 
     fn is_zero(&self) -> bool {
@@ -216,6 +255,24 @@ impl<D: Domain> Domain for Poly<D> {
                 }
             }
             None => Ok(None),
+        }
+    }
+
+    fn whole_quotient(&self, by: &Poly<D>) -> Option<Whole> {
+        if self.list.is_empty() {
+            return Some(Whole::ZERO);
+        }
+        if self.list.len() != by.list.len() {
+            return None;
+        }
+        let degree = by.list.len() - 1;
+        let Some(found) = self.list[degree].whole_quotient(&by.list[degree]) else {
+            return None;
+        };
+        if are_times(&self.list, &by.list, found) {
+            Some(found)
+        } else {
+            None
         }
     }
 }

@@ -67,4 +67,17 @@ impl<R: Ring> Poly<R> {
         let list = product_of_lists(alloc, &self.list, &other.list)?;
         Poly::from_coefficients(list)
     }
+
+    // The product, which has a row for each coefficient of this polynomial.
+    pub(crate) fn product(&self, alloc: Global, other: &Poly<R>) -> Result<Poly<R>, RingFault>
+        ensures gives { GivesInBounds ⟦<Poly<R> as Ring>⟧.meaning
+            (ProductInBounds ⟦<Poly<R> as Ring>⟧.algebra (⟦<Poly<R> as Ring>⟧.meaning self.now) (⟦<Poly<R> as Ring>⟧.meaning other.now))
+            (⟦<Poly<R> as Ring>⟧.algebra.ops.product (⟦<Poly<R> as Ring>⟧.meaning self.now) (⟦<Poly<R> as Ring>⟧.meaning other.now)) result }
+    {
+        if !self.is_product_surely_in_bounds(alloc, other) {
+            return self.product_by_magnitudes(alloc, other);
+        }
+        let list = product_of_lists(alloc, &self.list, &other.list)?;
+        Poly::from_coefficients(list)
+    }
 }

@@ -1,4 +1,4 @@
-use crate::{Poly, Zn, Znk};
+use crate::{Poly, Zn, Znk, times_power};
 use ring_laws::{Domain, Ring, RingFault, Whole};
 use std::alloc::Global;
 
@@ -155,5 +155,56 @@ fn values_and_shifts(rt: HostRuntime) -> Result<(), RingFault> {
             .shift_by(alloc, 1)?
             .same(&numbers(alloc, &[1, 2, 1])?)
     );
+    Ok(())
+}
+
+fn is_too_large<T>(answer: &Result<T, RingFault>) -> bool {
+    matches!(answer, Err(RingFault::TooLarge))
+}
+
+// k^2 + n at n + 3 is k^2 + n + 3.
+#[test]
+fn the_second_variable_is_shifted(rt: HostRuntime) -> Result<(), RingFault> {
+    let alloc = rt.alloc();
+    let square: Znk = numbers(alloc, &[0, 0, 1])?;
+    let poly = square.add(alloc, &line(alloc, numbers(alloc, &[0, 1])?, number(alloc, 0)?)?)?;
+    let shifted = poly.add(alloc, &number(alloc, 3)?)?;
+    assert!(rt; poly.shift_inner_by(alloc, 3)?.same(&shifted));
+    assert!(rt; shifted.shift_inner_by(alloc, -3)?.same(&poly));
+    let half: i128 = 1 << 126;
+    let wide: Znk = line(alloc, numbers(alloc, &[0, half])?, number(alloc, 1)?)?;
+    assert!(rt; wide.shift_inner_by(alloc, 1).is_ok());
+    assert!(rt; is_too_large(&wide.shift_inner_by(alloc, -2)));
+    Ok(())
+}
+
+// -3*(2*n - 4) is 12 - 6*n, and no whole number of these is 12 - 5*n, 12 or a square.
+#[test]
+fn whole_quotients(rt: HostRuntime) -> Result<(), RingFault> {
+    let alloc = rt.alloc();
+    let by: Znk = line(alloc, numbers(alloc, &[-4, 2])?, numbers(alloc, &[0, 0, 2])?)?;
+    let found = by.mul(alloc, &number(alloc, -3)?)?.whole_quotient(&by);
+    assert_eq!(rt; found.map(|found| found.value()), Some(-3));
+    let line: Zn = numbers(alloc, &[-4, 2])?;
+    assert!(rt; numbers::<Whole>(alloc, &[12, -5])?.whole_quotient(&line).is_none());
+    assert!(rt; numbers::<Whole>(alloc, &[12])?.whole_quotient(&line).is_none());
+    assert!(rt; numbers::<Whole>(alloc, &[0, -4, 2])?.whole_quotient(&line).is_none());
+    assert!(rt; line.whole_quotient(&Zn::zero(alloc)?).is_none());
+    assert!(rt; Zn::zero(alloc)?.whole_quotient(&line).is_some());
+    let greatest: Zn = number(alloc, i128::MAX)?;
+    assert_eq!(rt; greatest.whole_quotient(&greatest).map(|found| found.value()), Some(1));
+    Ok(())
+}
+
+#[test]
+fn products_with_powers(rt: HostRuntime) -> Result<(), RingFault> {
+    let alloc = rt.alloc();
+    let above: Zn = numbers(alloc, &[1, 1])?;
+    let product = times_power(alloc, number(alloc, 2)?, above.duplicate(alloc)?, 3)?;
+    assert!(rt; product.same(&numbers(alloc, &[2, 6, 6, 2])?));
+    let two: Whole = number(alloc, 2)?;
+    let greatest = times_power(alloc, Whole::ONE, two, 126)?;
+    assert_eq!(rt; greatest.value(), 1 << 126);
+    assert!(rt; is_too_large(&times_power(alloc, Whole::ONE, two, 127)));
     Ok(())
 }

@@ -4,7 +4,7 @@ use Rattle.ring_laws.specs.Meaning.{Meaning, number, listed}
 use Rattle.ring_laws.specs.Wholes.{whole_algebra}
 use Rattle.poly_laws.specs.PolyAlgebra.{poly_algebra}
 use Rattle.poly_laws.specs.Values.{value_at}
-use Rattle.poly_laws.specs.Shift.{poly_shift}
+use Rattle.poly_laws.specs.Shift.{poly_shift, inner_shift}
 
 -- n^2 + 1
 abbrev square_and_one : Meaning
@@ -61,3 +61,9 @@ square_shifted :
     poly_shift whole_algebra.ops (pos 1) (listed (number (pos 0) ∷ number (pos 0) ∷ number (pos 1) ∷ []))
     ≡ listed (number (pos 1) ∷ number (pos 2) ∷ number (pos 1) ∷ [])
 square_shifted = refl
+
+-- k^2 + n at n + 3 is k^2 + n + 3
+inner_shifted :
+    inner_shift whole_algebra.ops (pos 3) square_and_n
+    ≡ listed (listed (number (pos 3) ∷ number (pos 1) ∷ []) ∷ listed [] ∷ listed (number (pos 1) ∷ []) ∷ [])
+inner_shifted = refl

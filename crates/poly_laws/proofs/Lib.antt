@@ -29,3 +29,8 @@ pub mod ShiftedTops
 pub mod ShiftedProducts
 pub mod ShiftsTwice
 pub mod ProductTops
+pub mod WholeMultiples
+pub mod InnerShifts
+pub mod Powers
+pub mod PowerBounds
+pub mod Squaring

@@ -5,3 +5,4 @@ pub mod Values
 pub mod Shift
 pub mod LongDivision
 pub mod Evaluation
+pub mod Powers

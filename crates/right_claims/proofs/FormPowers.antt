@@ -5,7 +5,8 @@ use Rattle.ring_laws.specs.Algebra.{same_passing}
 use Rattle.poly_laws.specs.Values.{level}
 use Rattle.hypergeometric.specs.LinearForm.{LinearForm}
 use Rattle.lin_form.specs.FactorLists.{factor_with}
-use Rattle.lin_form.specs.Products.{form_polynomial, power_in}
+use Rattle.poly_laws.specs.Powers.{power_in}
+use Rattle.lin_form.specs.Products.{form_polynomial}
 use Rattle.division_laws.specs.Polynomials.{Polynomial}
 use Rattle.pole_laws.proofs.NormalPolynomials.{in_k}
 use Rattle.pole_laws.proofs.FormProducts.{in_k_ring, forms_in_k}

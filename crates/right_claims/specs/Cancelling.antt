@@ -4,7 +4,8 @@ use Rattle.ring_laws.specs.Meaning.{Meaning}
 use Rattle.poly_laws.specs.Values.{level}
 use Rattle.hypergeometric.specs.LinearForm.{LinearForm, Factor}
 use Rattle.lin_form.specs.FactorLists.{factor_with}
-use Rattle.lin_form.specs.Products.{form_polynomial, power_in}
+use Rattle.poly_laws.specs.Powers.{power_in}
+use Rattle.lin_form.specs.Products.{form_polynomial}
 use Rattle.kernel_laws.specs.RowSteps.{HasQuotient}
 use Rattle.division_laws.specs.Polynomials.{Polynomial}
 

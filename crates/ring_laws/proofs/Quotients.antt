@@ -4,10 +4,10 @@ use Rattle.std.proofs.lemmas.Int.{ints, to_z-of_z, quot_is, quot-rem, rem_is, un
 use Rattle.std.proofs.Math.Nat.{mul-add-mod_self_right, div-le_self}
 use Rattle.std.specs.Int.{cast_signed, cast_unsigned, w128}
 use Rattle.ring_laws.specs.Meaning.{number}
-use Rattle.ring_laws.specs.Wholes.{whole_algebra}
+use Rattle.ring_laws.specs.Wholes.{whole_algebra, number_of}
 use Rattle.ring_laws.specs.WholeDomain.{abs_nought}
 use Rattle.ring_laws.specs.declared.wholes.Whole.{Whole}
-use Rattle.ring_laws.specs.Division.{Divides}
+use Rattle.ring_laws.specs.Division.{Divides, IsTimes}
 
 abs_neg : (n : ℕ) → unsigned_abs (neg_ℤ (pos n)) ≡ n
 abs_neg zero = refl
@@ -44,13 +44,28 @@ no_quotient a b f g n q e =
 div_fits : (a b : ℤ) → unsigned_abs a < 2 ^ 127 → unsigned_abs (int_div a b) < 2 ^ 127
 div_fits a b h = omega (arith, abs_div a b, div-le_self (unsigned_abs a) (unsigned_abs b))
 
+-- a quotient, or no number of any size is one
+abbrev pub Quotient : ℤ → ℤ → Option Whole → Type 0
+Quotient a b r = MatchOption r ((q : ℤ) → ¬ (q *ℤ b ≡ a)) (λ q. q.value *ℤ b ≡ a)
+
 pub quotient_given : (a b : ℤ) (r : Option Whole) → FitsSigned w128 a → FitsSigned w128 b → unsigned_abs a < 2 ^ 127 → coded_rem a b ≡ 0
-    → MatchOption r (coded_div a b ≡ negsuc (2 ^ 127 - 1)) (λ w. w.value ≡ coded_div a b)
-    → Divides (λ (w : Whole). number w.value) whole_algebra (Unit {0}) (number a) (number b) (Ok r)
+    → MatchOption r (coded_div a b ≡ negsuc (2 ^ 127 - 1)) (λ w. w.value ≡ coded_div a b) → Quotient a b r
 quotient_given a b (Some w) f g h e m =
     let d : coded_div a b ≡ int_div a b = quot_is w128 a b f g (fits_signed_from_abs w128 (int_div a b) (div_fits a b h)) in
     let r : int_rem a b ≡ pos 0 = sym (rem_is w128 a b f g) ∙ ap (cast_signed w128) e in
-    ap number (ap (λ z. z *ℤ b) (m ∙ d) ∙ omega (arith, ints, quot-rem a b, r))
+    ap (λ z. z *ℤ b) (m ∙ d) ∙ omega (arith, ints, quot-rem a b, r)
 quotient_given a b None f g h e m =
     let d : coded_div a b ≡ int_div a b = quot_is w128 a b f g (fits_signed_from_abs w128 (int_div a b) (div_fits a b h)) in
     absurd (omega (arith, div_fits a b h, ap unsigned_abs (sym d ∙ m)))
+
+-- so as a division in the ring of whole numbers
+pub divides_given : (a b : ℤ) (r : Option Whole) → Quotient a b r
+    → Divides (λ (w : Whole). number w.value) whole_algebra (Unit {0}) (number a) (number b) (Ok r)
+divides_given a b (Some w) e = ap number e
+divides_given a b None none = λ quotient holds. none (number_of quotient.0) (ap number_of holds)
+
+-- and as a whole number by which b becomes a
+pub times_given : (a b : ℤ) (r : Option Whole) → Quotient a b r
+    → MatchOption r ((c : ℤ) → ¬ (IsTimes whole_algebra c (number b) (number a))) (λ c. IsTimes whole_algebra c.value (number b) (number a))
+times_given a b (Some w) e = ap number e
+times_given a b None none = λ c holds. none c (ap number_of holds)

@@ -17,3 +17,7 @@ abbrev pub Divides : {T : Type 0} → (T → Meaning) → Algebra → Type 0 →
 Divides meaning a InBounds x y (Ok (Some quotient)) = a.ops.product (meaning quotient) y ≡ x
 Divides meaning a InBounds x y (Ok None) = (quotient : Passing a) → ¬ (a.ops.product quotient.0 y ≡ x)
 Divides meaning a InBounds x y (Err fault) = OnFault (¬ InBounds) fault
+
+-- c*y is x, for a whole number c
+abbrev pub IsTimes : Algebra → ℤ → Meaning → Meaning → Type 0
+IsTimes a c y x = a.ops.product (a.ops.whole c) y ≡ x

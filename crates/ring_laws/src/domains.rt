@@ -1,11 +1,12 @@
 //! The trait of rings without divisors of zero, and their exact division.
 
-ghost use Rattle.std.specs.Prelude.{IsFalse};
+ghost use Rattle.std.specs.Prelude.{ℤ, IsFalse, MatchOption};
 ghost use Rattle.ring_laws.specs.Meaning.{Meaning};
-ghost use Rattle.ring_laws.specs.Division.{DomainLaws, Divides};
+ghost use Rattle.ring_laws.specs.Division.{DomainLaws, Divides, IsTimes};
 
 use crate::faults::RingFault;
 use crate::rings::Ring;
+use crate::wholes::Whole;
 use std::alloc::Global;
 
 /// A ring in which a product is zero only where a factor is, with exact division.
@@ -20,6 +21,11 @@ pub trait Domain: Ring {
         requires not_zero { IsFalse (Self.algebra.ops.is_nought (Self.meaning by.now)) }
         ensures divides { Divides Self.meaning Self.algebra (division_in_bounds (Self.meaning self.now) (Self.meaning by.now)) (Self.meaning self.now)
             (Self.meaning by.now) result };
+
+    /// The whole number c with `c*by = self`, or `None` exactly where no whole number of any size is one. It takes no memory.
+    fn whole_quotient(&self, by: &Self) -> Option<Whole>
+        ensures quotient { MatchOption result ((c : ℤ) → ¬ (IsTimes Self.algebra c (Self.meaning by.now) (Self.meaning self.now)))
+            (λ c. IsTimes Self.algebra c.value (Self.meaning by.now) (Self.meaning self.now)) };
 
     // No divisors of zero, and the whole number w is zero in the ring only where w is 0.
     ghost domain_laws: { DomainLaws Self.algebra };

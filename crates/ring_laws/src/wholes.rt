@@ -1,6 +1,6 @@
 //! Whole numbers below 2^127 in magnitude, as a ring and a domain.
 
-ghost use Rattle.std.specs.Prelude.{◌≡◌, ◌<◌, ◌+◌, ◌*◌, ◌^◌, ◌+ℤ◌, ◌*ℤ◌, neg_ℤ, ◌↔◌, ⊤, pos, negsuc, ℤ, IsTrue, IsFalse, IsOk, refl, unsigned_abs, MatchOption, IfSome};
+ghost use Rattle.std.specs.Prelude.{◌≡◌, ◌≢◌, ◌<◌, ◌+◌, ◌*◌, ◌^◌, ◌+ℤ◌, ◌*ℤ◌, neg_ℤ, ◌↔◌, ⊤, pos, negsuc, ℤ, IsTrue, IsFalse, IsOk, refl, unsigned_abs, MatchOption, IfSome};
 ghost use Rattle.std.specs.Result.{IsOkUnless};
 ghost use Rattle.ring_laws.specs.Meaning.{number};
 ghost use Rattle.ring_laws.specs.Answer.{Gives, GivesInBounds};
@@ -35,6 +35,12 @@ pub struct Whole {
 }
 
 impl Whole {
+    /// 0.
+    pub const ZERO: Whole = Whole { value: 0 };
+
+    /// 1.
+    pub const ONE: Whole = Whole { value: 1 };
+
     /// The number as a `Whole`, `None` exactly for `i128::MIN`, whose magnitude is 2^127.
     pub fn new(value: i128) -> Option<Whole>
         ensures given { MatchOption result (value ≡ i128.MIN) (λ whole. whole.value ≡ value) }
@@ -52,6 +58,24 @@ impl Whole {
         ensures small { unsigned_abs result < 2 ^ 127 }
     {
         self.value
+    }
+
+    /// The absolute value.
+    pub fn unsigned_abs(self) -> u128
+        ensures size { result ≡ unsigned_abs self.value }
+        ensures small { result < 2 ^ 127 }
+    {
+        self.value.unsigned_abs()
+    }
+}
+
+impl From<i64> for Whole {
+    ghost from_gives = { λ value whole. whole.value ≡ value };
+
+    fn from(value: i64) -> Whole {
+        Whole {
+            value: i128::from(value),
+        }
     }
 }
 
@@ -197,9 +221,27 @@ impl Domain for Whole {
         ensures divides { Divides (λ whole. number whole.value) whole_algebra ⊤ (number self.now.value) (number by.now.value) result }
         ensures always { IsOk result }
     {
-        if self.value % by.value != 0 {
-            return Ok(None);
-        }
-        Ok(Whole::new(self.value / by.value))
+        Ok(exact_quotient(*self, *by))
     }
+
+    fn whole_quotient(&self, by: &Whole) -> Option<Whole> {
+        if by.value != 0 {
+            exact_quotient(*self, *by)
+        } else if self.value == 0 {
+            Some(Whole::ZERO)
+        } else {
+            None
+        }
+    }
+}
+
+// The quotient by a number that isn't 0, or `None` exactly where no number is one.
+fn exact_quotient(number: Whole, by: Whole) -> Option<Whole>
+    requires not_zero { by.value ≢ pos 0 }
+    ensures quotient { MatchOption result ((q : ℤ) → ¬ (q *ℤ by.value ≡ number.value)) (λ q. q.value *ℤ by.value ≡ number.value) }
+{
+    if number.value % by.value != 0 {
+        return None;
+    }
+    Whole::new(number.value / by.value)
 }

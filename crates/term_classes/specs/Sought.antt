@@ -5,7 +5,7 @@ use Rattle.ring_laws.specs.Meaning.{Meaning, items}
 use Rattle.hypergeometric.specs.Fraction.{Fraction, of_whole, fraction_negative, fraction_product}
 use Rattle.hypergeometric.specs.Tree.{Tree, tree, Node, literal, variable_n, variable_k, sum_of, product_of, power_of, factorial_of, binomial_of, Parts, no_parts, part}
 use Rattle.hypergeometric.specs.TreePolynomial.{in_n_and_k, poly_n, poly_k, poly_power, constant_in_k, constant_of}
-use Rattle.lin_form.specs.Products.{power_in, nonzero_magnitude}
+use Rattle.poly_laws.specs.Powers.{power_in, nonzero_magnitude}
 use Rattle.steps.specs.Operations.{of_polynomial, of_fraction}
 use Rattle.steps.specs.Found.{in_front, where_some, made_of}
 use Rattle.steps.specs.Steps.{gives, makes, within_limit, ◌then◌}

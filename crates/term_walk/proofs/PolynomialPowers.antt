@@ -9,7 +9,7 @@ use Rattle.poly_laws.specs.Values.{level}
 use Rattle.poly_laws.proofs.Equal.{level_laws}
 use Rattle.hypergeometric.specs.ProperTerm.{ProperTerm}
 use Rattle.hypergeometric.specs.TreePolynomial.{in_n_and_k, poly_power}
-use Rattle.lin_form.specs.Products.{power_in, nonzero_magnitude, IsBound}
+use Rattle.poly_laws.specs.Powers.{power_in, nonzero_magnitude, IsBound}
 use Rattle.term_classes.specs.Sought.{size_raised}
 use Rattle.steps.proofs.AnswerLaws.{ring_cause, made_too_large}
 use Rattle.steps.specs.Answers.{HasCause}

@@ -8,7 +8,7 @@ use Rattle.ring_laws.specs.Meaning.{number}
 use Rattle.ring_laws.specs.Algebra.{Passing}
 use Rattle.ring_laws.specs.Wholes.{number_of, whole_algebra}
 use Rattle.hypergeometric.proofs.FractionLaws.{one_not_zero, product_not_zero}
-use Rattle.lin_form.specs.Products.{power_in, nonzero_magnitude, IsBound}
+use Rattle.poly_laws.specs.Powers.{power_in, nonzero_magnitude, IsBound}
 use Rattle.ring_laws.specs.Answer.{OnFault}
 use Rattle.ring_laws.specs.declared.faults.RingFault.{RingFault}
 use Rattle.term_classes.specs.Divisors.{nonzero_size}

@@ -6,10 +6,11 @@ use Rattle.ring_laws.specs.declared.faults.RingFault.{RingFault}
 use Rattle.ring_laws.specs.Meaning.{Meaning}
 use Rattle.ring_laws.specs.Algebra.{Passing}
 use Rattle.poly_laws.specs.Values.{level}
-use Rattle.lin_form.specs.Products.{power_in, nonzero_magnitude, IsBound, GivesTimes}
-use Rattle.lin_form.proofs.Bounds.{bounded_unit}
+use Rattle.poly_laws.specs.Powers.{power_in, nonzero_magnitude, IsBound}
+use Rattle.poly_generic.specs.PowerAnswer.{GivesTimes}
+use Rattle.poly_laws.proofs.PowerBounds.{bounded_unit}
 use Rattle.lin_form.proofs.FormPolynomials.{laws, o, first, more_than_one}
-use Rattle.lin_form.proofs.Squaring.{power_first, magnitude_first}
+use Rattle.poly_laws.proofs.Squaring.{power_first, magnitude_first}
 use Rattle.hypergeometric.specs.TreePolynomial.{in_n_and_k, poly_power}
 use Rattle.term_classes.specs.Sought.{size_raised}
 

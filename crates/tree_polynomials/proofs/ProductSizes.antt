@@ -4,10 +4,10 @@ use Rattle.std.specs.Prelude.{IsTrue}
 use Rattle.ring_laws.specs.Meaning.{Meaning}
 use Rattle.ring_laws.specs.Algebra.{Passing, ProductInBounds}
 use Rattle.poly_laws.specs.Values.{level}
-use Rattle.lin_form.specs.Products.{nonzero_magnitude, IsBound}
-use Rattle.lin_form.proofs.Bounds.{bounded_unit, bounded_product, bounded_self, in_bounds, part_fits}
+use Rattle.poly_laws.specs.Powers.{nonzero_magnitude, IsBound}
+use Rattle.poly_laws.proofs.PowerBounds.{bounded_unit, bounded_product, bounded_self, in_bounds, part_fits}
 use Rattle.lin_form.proofs.FormPolynomials.{laws, o, more_than_one}
-use Rattle.lin_form.proofs.Squaring.{magnitude_first}
+use Rattle.poly_laws.proofs.Squaring.{magnitude_first}
 use Rattle.hypergeometric.specs.TreePolynomial.{in_n_and_k}
 use Rattle.term_classes.specs.Sought.{product_of_polynomials, sizes_multiplied}
 use Rattle.tree_polynomials.proofs.ItemsBehind.{item_first}

@@ -9,7 +9,7 @@ ghost use Rattle.steps.specs.TermFaults.{term_cause};
 ghost use Rattle.term_classes.specs.Divisors.{nonzero_size};
 ghost use Rattle.tree_polynomials.specs.Views.{whole_value};
 
-use lin_form::times_power;
+use poly_generic::times_power;
 use ring_laws::Whole;
 use std::alloc::Global;
 use steps::{TermFault, fault_at};

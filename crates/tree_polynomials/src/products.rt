@@ -5,8 +5,7 @@ ghost use Rattle.ring_laws.specs.Answer.{OnFault};
 ghost use Rattle.hypergeometric.specs.TreePolynomial.{in_n_and_k, poly_power};
 ghost use Rattle.term_classes.specs.Sought.{product_of_polynomials, sizes_multiplied, size_raised};
 
-use lin_form::times_power;
-use poly_generic::Znk;
+use poly_generic::{Znk, times_power};
 use ring_laws::{Ring, RingFault};
 use std::alloc::Global;
 

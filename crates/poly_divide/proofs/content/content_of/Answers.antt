@@ -5,7 +5,7 @@ use Rattle.std.proofs.lemmas.List.{length-map}
 use Rattle.ring_laws.specs.Meaning.{number, listed, parted-joined}
 use Rattle.ring_laws.specs.Wholes.{whole_algebra, number_of}
 use Rattle.poly_divide.specs.Content.{sizes_of, IsContent}
-use Rattle.poly_divide.proofs.Contents.{content_step}
+use Rattle.poly_divide.proofs.Contents.{content_step, content_seen}
 use Rattle.poly_divide.proofs.content.content_of.Goals as goal
 
 -- a polynomial has at most 256 coefficients
@@ -39,3 +39,9 @@ loop-power-preserved-in-Some-coefficient c =
           (drop k (sizes_of (listed (map (λ w. number w.value) c.args.f.now.list.items)))) c.loop-power.content) n c.loop-power.invariant.made)
           c.gcd_whole-content.ensures.greatest;
     }
+
+-- a content of 1 stays
+pub returns-else-content-ne1 : goal.returns-else-content-ne1
+returns-else-content-ne1 c =
+    content_seen (sizes_of (listed (map (λ w. number w.value) c.args.f.now.list.items))) c.loop-power.power c.loop-power.content
+    (omega (arith, c.if-content-ne1.false)) c.loop-power.invariant.made

@@ -1,7 +1,7 @@
 use Rattle.std.proofs.Common.{◌≡◌, ◌+◌, ◌-◌, map, drop, subst, arith}
 use Rattle.ring_laws.specs.Meaning.{number, listed}
 use Rattle.poly_divide.specs.Content.{row_sizes, IsContent}
-use Rattle.poly_divide.proofs.Contents.{row_step}
+use Rattle.poly_divide.proofs.Contents.{row_step, row_seen}
 use Rattle.poly_divide.proofs.content.whole_content.Goals as goal
 
 -- the polynomial at the place comes in front
@@ -19,3 +19,11 @@ loop-at-preserved c =
           (drop k c.args.row.now))) c.loop-at.content) n c.loop-at.invariant.made)
           c.gcd_whole-content.ensures.greatest;
     }
+
+-- a content of 1 stays
+pub returns-else-content-ne1 : goal.returns-else-content-ne1
+returns-else-content-ne1 c = record {
+  content =
+      row_seen (λ f. listed (map (λ w. number w.value) f.list.items)) c.args.row.now c.loop-at.at c.loop-at.content
+      (omega (arith, c.if-content-ne1.false)) c.loop-at.invariant.made;
+}

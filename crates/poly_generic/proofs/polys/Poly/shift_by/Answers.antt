@@ -1,63 +1,14 @@
-use Rattle.std.proofs.Common.{◌≡◌, map, ap, ◌∙◌, subst, arith}
+use Rattle.std.proofs.Common.{◌≡◌, arith, map}
 use Rattle.std.proofs.lemmas.Int.{ints, to_z-of_z}
-use Rattle.ring_laws.specs.Answer.{OnFault}
-use Rattle.poly_laws.specs.Shift.{list_shift, ListShiftInBounds}
-use Rattle.poly_generic.proofs.PolyAnswers.{fault_poly}
-use Rattle.poly_generic.proofs.EvalAnswers.{shift_bound_fault, shift_list_fault, shift_given}
+use Rattle.ring_laws.specs.Meaning.{Meaning, listed}
+use Rattle.poly_generic.specs.declared.polys.Poly.{Poly}
+use Rattle.poly_generic.proofs.EvalAnswers.{shift_number}
 use Rattle.poly_generic.proofs.polys.Poly.shift_by.Goals as goal
 
--- the shift of the magnitudes doesn't fit
-pub returns-in_err-_bound : goal.returns-in_err-_bound
-returns-in_err-_bound g c =
-    let a = g.R.Ring.algebra in
-    let M = g.R.Ring.meaning in
-    let number : c.in-Some.by.value ≡ c.args.by = grind (arith, ints, to_z-of_z, c.in-Some.ensures.given, c.from.ensures) in
-    let sizes : map g.R.Ring.meaning c.in_ok-sizes.sizes.items
-    ≡ map g.R.Ring.algebra.ops.magnitude (map g.R.Ring.meaning c.args.self.now.list.items) =
-    c.in_ok-sizes.ensures ∙ ap (λ t. map a.ops.magnitude (map M t)) c.deref.ensures.value in
-    record {
-      gives =
-          fault_poly _ _ _ c.from_residual-in_err-_bound.result c.in_err-_bound.field-0.0 c.from_residual-in_err-_bound.ensures.1
-          (shift_bound_fault a g.met.R.Ring.laws M g.met.R.Ring.passes g.met.R.Ring.fits c.in_ok-by.by
-          (a.ops.whole c.args.by) c.args.self.now.list.items
-          (M c.in_ok-size.size) (map M c.in_ok-sizes.sizes.items) c.in_err-_bound.field-0.0 (c.in_ok-by.ensures.gives ∙ ap a.ops.whole number)
-          c.in_ok-size.ensures.gives sizes
-          (subst (λ t. OnFault (¬
-          (ListShiftInBounds a (M c.in_ok-size.size) (map M t))) c.in_err-_bound.field-0.0) c.deref-2.ensures.value c.in_err-_bound.ensures));
-    }
-
--- a step doesn't fit, so the shift of the magnitudes doesn't
-pub returns-in_err-list : goal.returns-in_err-list
-returns-in_err-list g c =
-    let a = g.R.Ring.algebra in
-    let M = g.R.Ring.meaning in
-    let number : c.in-Some.by.value ≡ c.args.by = grind (arith, ints, to_z-of_z, c.in-Some.ensures.given, c.from.ensures) in
-    record {
-      gives =
-          fault_poly _ _ _ c.from_residual-in_err-list.result c.in_err-list.field-0.0 c.from_residual-in_err-list.ensures.1
-          (shift_list_fault a g.met.R.Ring.laws M g.met.R.Ring.passes g.met.R.Ring.fits c.in_ok-by.by
-          (a.ops.whole c.args.by) c.args.self.now.list.items
-          c.in_err-list.field-0.0 (c.in_ok-by.ensures.gives ∙ ap a.ops.whole number)
-          (subst (λ t. OnFault (¬
-          (ListShiftInBounds a (M c.in_ok-by.by) (map M t))) c.in_err-list.field-0.0) c.deref-3.ensures.value c.in_err-list.ensures));
-    }
-
--- the shift, where that of the magnitudes is a list of values too
 pub returns : goal.returns
 returns g c =
-    let a = g.R.Ring.algebra in
-    let M = g.R.Ring.meaning in
-    let number : c.in-Some.by.value ≡ c.args.by = grind (arith, ints, to_z-of_z, c.in-Some.ensures.given, c.from.ensures) in
-    let sizes : map g.R.Ring.meaning c.in_ok-sizes.sizes.items
-    ≡ map g.R.Ring.algebra.ops.magnitude (map g.R.Ring.meaning c.args.self.now.list.items) =
-    c.in_ok-sizes.ensures ∙ ap (λ t. map a.ops.magnitude (map M t)) c.deref.ensures.value in
+    let number : c.from.result.value ≡ c.args.by = grind (arith, ints, to_z-of_z, c.from.ensures) in
+    let mean : Poly g.row.R.Denot g.R.Ring → Meaning = λ v. listed (map g.R.Ring.meaning v.list.items) in
     record {
-      gives =
-          shift_given a g.met.R.Ring.laws M g.met.R.Ring.passes g.met.R.Ring.fits _ c.in_ok-by.by c.args.by c.args.self.now.list.items
-          c.in_ok-_bound._bound.items
-          (M c.in_ok-size.size) (map M c.in_ok-sizes.sizes.items) (map M c.in_ok-list.list.items) c.from_coefficients.result
-          (c.in_ok-by.ensures.gives ∙ ap a.ops.whole number) c.in_ok-size.ensures.gives sizes c.args.self.now.short
-          (c.in_ok-_bound.ensures ∙ ap (λ t. list_shift a.ops (M c.in_ok-size.size) (map M t)) c.deref-2.ensures.value)
-          (c.in_ok-list.ensures ∙ ap (λ t. list_shift a.ops (M c.in_ok-by.by) (map M t)) c.deref-3.ensures.value)
-          c.from_coefficients.ensures.gives;
+      gives = shift_number g.R.Ring.algebra mean c.from.result.value c.args.by (mean c.args.self.now) c.shifted.result number c.shifted.ensures.gives;
     }

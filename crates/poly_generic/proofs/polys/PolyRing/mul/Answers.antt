@@ -1,34 +1,42 @@
-use Rattle.std.proofs.Common.{map, ◌≡◌}
-use Rattle.poly_laws.specs.Bounds.{ListProductInBounds}
-use Rattle.poly_laws.specs.Lists.{list_product}
-use Rattle.ring_laws.specs.Answer.{OnFault}
-use Rattle.poly_generic.proofs.PolyAnswers.{fault_poly, two}
-use Rattle.poly_generic.proofs.ProductAnswers.{product_fault, product_in_bounds_given}
+use Rattle.std.proofs.Common.{map}
+use Rattle.ring_laws.specs.Algebra.{Passing}
+use Rattle.ring_laws.specs.Meaning.{Meaning, listed}
+use Rattle.poly_laws.specs.PolyAlgebra.{poly_algebra}
+use Rattle.poly_laws.proofs.Belonging.{value_passes}
+use Rattle.poly_laws.proofs.PolyMagnitudes.{poly_laws}
+use Rattle.poly_generic.specs.declared.polys.Poly.{Poly}
+use Rattle.poly_generic.proofs.EasyProducts.{exchanged, counted_none, no_items, with_nought}
 use Rattle.poly_generic.proofs.polys.PolyRing.mul.Goals as goal
+use Rattle.poly_generic.proofs.polys.PolyRing.mul.Goals.{then-is_empty-via-then-is_empty, then-is_empty-via-else-is_empty+then-is_empty-2}
 
--- a step of the product doesn't fit, so that of the magnitudes doesn't
-pub returns-in_err-list : goal.returns-in_err-list
-returns-in_err-list g c =
+-- a factor without coefficients
+pub returns-then-is_empty : goal.returns-then-is_empty
+returns-then-is_empty g c =
+    let M = g.R.Ring.meaning in
+    let P = g.met.R.Ring.passes in
+    let a = g.R.Ring.algebra in
+    let L = poly_laws g.R.Ring.algebra g.met.R.Ring.laws in
+    let mean : Poly g.row.R.Denot g.R.Ring → Meaning = λ v. listed (map M v.list.items) in
+    let x : Passing (poly_algebra g.R.Ring.algebra) = (mean c.args.self.now, value_passes a M P c.args.self.now.list.items c.args.self.now.ended) in
+    let y : Passing (poly_algebra g.R.Ring.algebra) = (mean c.args.other.now, value_passes a M P c.args.other.now.list.items c.args.other.now.ended) in
     record {
       gives =
-          fault_poly _ _ _ c.from_residual.result c.in_err-list.field-0.0 c.from_residual.ensures.1
-          (product_fault g.R.Ring.algebra g.met.R.Ring.laws g.R.Ring.meaning g.met.R.Ring.passes g.met.R.Ring.fits c.args.self.now.list.items
-          c.args.other.now.list.items c.in_err-list.field-0.0 c.args.self.now.ended c.args.other.now.ended
-          (two (λ s t. OnFault (¬
-          (ListProductInBounds g.R.Ring.algebra (map g.R.Ring.meaning s)
-          (map g.R.Ring.meaning t))) c.in_err-list.field-0.0) _ _ _ _ c.deref.ensures.value c.deref-2.ensures.value c.in_err-list.ensures));
+          elim c.then-is_empty.branch [
+            | then-is_empty-via-then-is_empty w ↦ with_nought (poly_algebra a) L mean x y c.zero.result
+                (no_items M c.args.self.now.list.items (counted_none c.args.self.now.list c.is_empty.result c.is_empty.ensures w.if-is_empty.true)) c.zero.ensures.gives
+            | then-is_empty-via-else-is_empty+then-is_empty-2 w ↦ exchanged (poly_algebra a) L mean x y c.zero.result
+                (with_nought (poly_algebra a) L mean y x c.zero.result
+                (no_items M c.args.other.now.list.items (counted_none c.args.other.now.list w.is_empty-else-is_empty.result w.is_empty-else-is_empty.ensures w.if-is_empty-2.true)) c.zero.ensures.gives)
+          ];
     }
 
--- the product that the test has shown to be in bounds
-pub returns : goal.returns
-returns g c =
-    let list = two (λ s t. map g.R.Ring.meaning c.in_ok-list.list.items ≡ list_product g.R.Ring.algebra.ops (map g.R.Ring.meaning s)
-    (map g.R.Ring.meaning t))
-    c.deref.result.now c.args.self.now.list.items c.deref-2.result.now c.args.other.now.list.items c.deref.ensures.value c.deref-2.ensures.value
-    c.in_ok-list.ensures in
-    record {
-      gives =
-          product_in_bounds_given g.R.Ring.algebra g.met.R.Ring.laws g.R.Ring.meaning g.met.R.Ring.passes g.met.R.Ring.fits _
-          c.args.self.now.list.items c.args.other.now.list.items (map g.R.Ring.meaning c.in_ok-list.list.items) c.from_coefficients.result
-          c.args.self.now.ended c.args.other.now.ended (c.is_product_surely_in_bounds.ensures c.if-not-is_product_surely_in_bounds.false) list c.from_coefficients.ensures.gives;
-    }
+-- the factors exchanged
+pub returns-else-len : goal.returns-else-len
+returns-else-len g c =
+    let M = g.R.Ring.meaning in
+    let P = g.met.R.Ring.passes in
+    let a = g.R.Ring.algebra in
+    let mean : Poly g.row.R.Denot g.R.Ring → Meaning = λ v. listed (map M v.list.items) in
+    let x : Passing (poly_algebra g.R.Ring.algebra) = (mean c.args.self.now, value_passes a M P c.args.self.now.list.items c.args.self.now.ended) in
+    let y : Passing (poly_algebra g.R.Ring.algebra) = (mean c.args.other.now, value_passes a M P c.args.other.now.list.items c.args.other.now.ended) in
+    record { gives = exchanged (poly_algebra a) (poly_laws a g.met.R.Ring.laws) mean x y c.product-else-len.result c.product-else-len.ensures.gives }

@@ -3,9 +3,9 @@ use Rattle.std.specs.Prelude.{◌≡◌, ◌≢◌, ℕ, zero, suc, ◌+◌, con
 use Rattle.std.proofs.Common.{ap, sym, ◌∙◌, subst}
 use Rattle.ring_laws.specs.Meaning.{Meaning}
 use Rattle.ring_laws.specs.Algebra.{Algebra, Ops, Laws, Passing, within, ProductInBounds}
-use Rattle.lin_form.specs.Products.{power_in, nonzero_magnitude, IsBound}
-use Rattle.lin_form.proofs.Powers.{power_square, odd_step, squared_first, product_unit}
-use Rattle.lin_form.proofs.Bounds.{in_bounds, part_fits, bounded_product, bounded_power, bounded_self}
+use Rattle.poly_laws.specs.Powers.{power_in, nonzero_magnitude, IsBound}
+use Rattle.poly_laws.proofs.Powers.{power_square, odd_step, squared_first, product_unit}
+use Rattle.poly_laws.proofs.PowerBounds.{in_bounds, part_fits, bounded_product, bounded_power, bounded_self}
 
 -- bounds of the product and of the square whose product with the powers that are left is the whole bound
 pub record Parts (a : Algebra) (whole m b : Meaning) (left : ℕ) : Type 0 where

@@ -1,5 +1,5 @@
-use Rattle.lin_form.proofs.Squaring.{Reached}
-use Rattle.lin_form.proofs.products.times_power.Given as goal
+use Rattle.poly_laws.proofs.Squaring.{Reached}
+use Rattle.poly_generic.proofs.powers.times_power.Given as goal
 
 -- half of the powers are left
 abbrev pub decreases-loop-left : goal.decreases-loop-left

@@ -1,9 +1,9 @@
 use Rattle.std.specs.Prelude.{◌+◌, ◌/◌}
 use Rattle.std.proofs.Common.{arith, ap, ◌∙◌, subst}
-use Rattle.lin_form.proofs.Squaring.{Reached, start_reached, done}
-use Rattle.lin_form.proofs.SquaringSteps.{odd_halved, even_halved, squared, none_left, odd_fault, square_fault, fault_times}
-use Rattle.lin_form.proofs.products.times_power.Goals as goal
-use Rattle.lin_form.proofs.products.times_power.Goals.{then-left-eq1+in_ok-product, else-left-eq1}
+use Rattle.poly_laws.proofs.Squaring.{Reached, start_reached, done}
+use Rattle.poly_generic.proofs.SquaringSteps.{odd_halved, even_halved, squared, none_left, odd_fault, square_fault, fault_times}
+use Rattle.poly_generic.proofs.powers.times_power.Goals as goal
+use Rattle.poly_generic.proofs.powers.times_power.Goals.{then-left-eq1+in_ok-product, else-left-eq1}
 
 pub loop-left-init : goal.loop-left-init
 loop-left-init g c =

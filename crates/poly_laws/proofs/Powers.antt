@@ -3,7 +3,7 @@ use Rattle.std.specs.Prelude.{◌≡◌, ℕ, zero, suc, ◌+◌, [], ◌∷◌,
 use Rattle.std.proofs.Common.{ap, ◌∙◌, arith}
 use Rattle.ring_laws.specs.Algebra.{Ops, RingLaws}
 use Rattle.ring_solver.proofs.Read.{ring, reading}
-use Rattle.lin_form.specs.Products.{power_in}
+use Rattle.poly_laws.specs.Powers.{power_in}
 use Rattle.poly_laws.proofs.Rings.{solvable}
 
 module _ {A : Type 0} (o : Ops A) (l : RingLaws o) where

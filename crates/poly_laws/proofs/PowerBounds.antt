@@ -2,7 +2,7 @@
 use Rattle.std.specs.Prelude.{◌≡◌, ℕ, zero, suc, Bool, true, false, cond, refl}
 use Rattle.std.proofs.Common.{ap, sym, ◌∙◌, subst, ⊎_elim, true≢false}
 use Rattle.ring_laws.specs.Algebra.{Algebra, Ops, Laws, Passing, within, same_passing, ProductInBounds}
-use Rattle.lin_form.specs.Products.{power_in, nonzero_magnitude, IsBound}
+use Rattle.poly_laws.specs.Powers.{power_in, nonzero_magnitude, IsBound}
 
 -- the ring has more than one meaning
 module _ (a : Algebra) (l : Laws a) (distinct : ¬ (a.ops.unit ≡ a.ops.nought)) where

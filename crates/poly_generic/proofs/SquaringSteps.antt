@@ -5,8 +5,9 @@ use Rattle.ring_laws.specs.Meaning.{Meaning}
 use Rattle.ring_laws.specs.Algebra.{Algebra, Laws, Passing, ProductInBounds}
 use Rattle.ring_laws.specs.Answer.{OnFault, fault_weaker}
 use Rattle.ring_laws.specs.declared.faults.RingFault.{RingFault}
-use Rattle.lin_form.specs.Products.{power_in, nonzero_magnitude, IsBound, GivesTimes}
-use Rattle.lin_form.proofs.Squaring.{Reached, odd_reached, square_reached, odd_refused, square_refused}
+use Rattle.poly_laws.specs.Powers.{power_in, nonzero_magnitude, IsBound}
+use Rattle.poly_generic.specs.PowerAnswer.{GivesTimes}
+use Rattle.poly_laws.proofs.Squaring.{Reached, odd_reached, square_reached, odd_refused, square_refused}
 
 module _ (a : Algebra) (l : Laws a) where
   -- a step of the loop: an odd power gives a factor to the product, and half of the rest is left twice
