@@ -79,10 +79,10 @@ module _ {T Z : Type 0} (a : Algebra) (meaning : T → Meaning) (r : Reduction) 
         fault_weaker fault (λ n k. n (subst (All (ClearingInBounds DivisionInBounds a r t column (row_meant meaning row))) (sym removed_is)
         (k before after (row_meant meaning row) rows_are place_is).0)) h
 
-    pub split_not : (fault : RingFault) (x : Meaning) → x ≡ entry_at a.ops (row_meant meaning row) column → OnFault (¬ (r.SplitInBounds x)) fault
+    pub core_not : (fault : RingFault) (x : Meaning) → x ≡ entry_at a.ops (row_meant meaning row) column → OnFault (¬ (r.CoreInBounds x)) fault
         → OnFault (¬ InBounds) fault
-    split_not fault x f h =
-        fault_weaker fault (λ n k. n (subst r.SplitInBounds (sym f) (k before after (row_meant meaning row) rows_are place_is).1)) h
+    core_not fault x f h =
+        fault_weaker fault (λ n k. n (subst r.CoreInBounds (sym f) (k before after (row_meant meaning row) rows_are place_is).1)) h
 
 -- ---- the run over all columns
 isnt_true : (b : Bool) → IsFalse b → ¬ (IsTrue b)

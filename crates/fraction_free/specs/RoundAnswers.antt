@@ -37,7 +37,7 @@ pub record Rounds (a : Algebra) (r : Reduction) (t : Meaning) (column : ℕ) (ro
 abbrev pub RoundInBounds : (Meaning → Meaning → Type 0) → (a : Algebra) → Reduction → Meaning → ℕ → List (List Meaning) → ℕ → Type 0
 RoundInBounds InBounds a r t column rows place =
     (before after : List (List Meaning)) (pivot : List Meaning) → rows ≡ before ++ pivot ∷ after → place ≡ length before
-    → All (ClearingInBounds InBounds a r t column pivot) (before ++ after) × r.SplitInBounds (entry_at a.ops pivot column)
+    → All (ClearingInBounds InBounds a r t column pivot) (before ++ after) × r.CoreInBounds (entry_at a.ops pivot column)
 
 abbrev pub GivesRound : {T : Type 0} → (T → Meaning) → (a : Algebra) → Reduction → Meaning → ℕ → List (List Meaning) → ℕ → Type 0
     → Result (Round T) RingFault → Type 0

@@ -111,7 +111,7 @@ fn clear_column<R: Reducing>(
     let mut others = rows;
     let pivot = others.remove(place);
     let open = clear_rows(alloc, others, &pivot, column, divisor)?;
-    let (_plain, core) = pivot[column].split(alloc)?;
+    let core = pivot[column].core(alloc)?;
     Ok(Round { open, pivot, core })
 }
 

@@ -95,15 +95,23 @@ fn vectors_of_whole_numbers(rt: HostRuntime) -> Result<(), RingFault> {
 }
 
 // n*x = y; (n^2 - n)*x + n*y = 0, whose vector is reduced; a row of zeros; no rows; and two rows that are cleared over polynomials:
-// x + n*y = z and n*x + y = (n + 1)*z, so that (1 - n^2)*y = z, and z = 1 - n^2 gives y = 1 and x = 1 - n - n^2.
+// x + n*y = z and n*x + y = (n + 1)*z, so that (1 - n^2)*y = z, and z = 1 - n^2 gives y = 1 and x = 1 - n - n^2. That of
+// 2^126*(n^2 + 1)*x + y = 0 has a number of 127 bits.
 #[test]
 fn vectors_of_polynomials(rt: HostRuntime) -> Result<(), RingFault> {
     let alloc = rt.alloc();
-    let table: [(&[&[&[i128]]], u32, u32, &[&[i128]], u32); 5] = [
+    let table: [(&[&[&[i128]]], u32, u32, &[&[i128]], u32); 6] = [
         (&[&[&[0, 1], &[-1]]], 2, 1, &[&[1], &[0, 1]], 1),
         (&[&[&[0, -1, 1], &[0, 1]]], 2, 0, &[&[-1], &[-1, 1]], 1),
         (&[&[&[], &[]]], 2, 1, &[&[], &[1]], 1),
         (&[], 2, 0, &[&[1], &[]], 0),
+        (
+            &[&[&[1 << 126, 0, 1 << 126], &[1]]],
+            2,
+            1,
+            &[&[-1], &[1 << 126, 0, 1 << 126]],
+            1,
+        ),
         (
             &[&[&[1], &[0, 1], &[-1]], &[&[0, 1], &[1], &[-1, -1]]],
             3,

@@ -83,4 +83,4 @@ pub record RunInBounds (InBounds : Meaning → Meaning → Type 0) (a : Algebra)
   pub reduction : All r.ReductionInBounds rows
   pub clearing : (j : ℕ) (before after : List (List Meaning)) (pivot : List Meaning) (pivots : List (ℕ × List Meaning)) (t : Meaning)
       → j < columns → Run a r rows j (before ++ pivot ∷ after) pivots t → Chosen a r j (before ++ pivot ∷ after) (length before)
-      → All (ClearingInBounds InBounds a r t j pivot) (before ++ after) × r.SplitInBounds (entry_at a.ops pivot j)
+      → All (ClearingInBounds InBounds a r t j pivot) (before ++ after) × r.CoreInBounds (entry_at a.ops pivot j)
