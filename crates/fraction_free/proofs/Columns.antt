@@ -1,5 +1,5 @@
 -- One round of elimination: the chosen row is taken out, and the others are cleared.
-use Rattle.std.proofs.Common.{◌≡◌, ℕ, zero, suc, ◌+◌, ◌<◌, Bool, IsTrue, IsFalse, List, [], ◌∷◌, ◌++◌, map, length, get_or, take, drop, sym, ap, ◌∙◌, subst, arith, All, Result, Ok, Err, Vec, IsErrAnd, pos}
+use Rattle.std.proofs.Common.{◌≡◌, ℕ, zero, suc, ◌+◌, ◌<◌, Bool, IsTrue, IsFalse, List, [], ◌∷◌, ◌++◌, map, length, get_or, take, drop, sym, ap, ◌∙◌, subst, arith, All, Result, Ok, Err, Option, Vec, IsErrAnd, pos}
 use Rattle.std.specs.List.{AllZip}
 use Rattle.std.proofs.lemmas.List.{length-map, map-append, length-take, get_or-map}
 use Rattle.ring_laws.specs.Meaning.{Meaning}
@@ -9,11 +9,12 @@ use Rattle.ring_laws.specs.Division.{DomainLaws}
 use Rattle.ring_laws.specs.declared.faults.RingFault.{RingFault}
 use Rattle.poly_laws.proofs.ListLaws.{product_nought, nought_product}
 use Rattle.kernel_laws.specs.Rows.{entry_at}
+use Rattle.kernel_laws.specs.Pivots.{ArePivotColumns}
 use Rattle.kernel_laws.specs.Reduction.{Reduction, ReductionLaws, Splits}
 use Rattle.kernel_laws.specs.Elimination.{Cleared, ClearingInBounds, Chosen, IsFree, Run, RunInBounds, begin, pass, climb}
 use Rattle.kernel_laws.proofs.Parts.{middle_of}
 use Rattle.fraction_free.specs.declared.rounds.Round.{Round}
-use Rattle.fraction_free.specs.declared.rounds.PivotRow.{PivotRow}
+use Rattle.fraction_free.specs.declared.rounds.Eliminated.{Eliminated}
 use Rattle.fraction_free.specs.RowAnswers.{rows_meant}
 use Rattle.fraction_free.specs.RoundAnswers.{Rounds, RoundInBounds, GivesRound, GivesPivots}
 use Rattle.fraction_free.proofs.RowLemmas.{false_from}
@@ -25,8 +26,8 @@ pub fault_round : {T : Type 0} (meaning : T → Meaning) (a : Algebra) (r : Redu
 fault_round meaning a r t column rows place InBounds (Ok v) fault e h = absurd e
 fault_round meaning a r t column rows place InBounds (Err d) fault e h = subst (OnFault (¬ InBounds)) (sym e) h
 
-pub fault_pivots : {T Z : Type 0} (meaning : T → Meaning) (P : List (ℕ × List Meaning) → Type 0) (InBounds : Type 0)
-    (out : Result (Vec (PivotRow T) Z) RingFault) (fault : RingFault) → IsErrAnd out (λ e. e ≡ fault) → OnFault (¬ InBounds) fault
+pub fault_pivots : {T : Type 0} (meaning : T → Meaning) (P : List (ℕ × List Meaning) → Option ℕ → Type 0) (InBounds : Type 0)
+    (out : Result (Eliminated T) RingFault) (fault : RingFault) → IsErrAnd out (λ e. e ≡ fault) → OnFault (¬ InBounds) fault
     → GivesPivots meaning P InBounds out
 fault_pivots meaning P InBounds (Ok v) fault e h = absurd e
 fault_pivots meaning P InBounds (Err d) fault e h = subst (OnFault (¬ InBounds)) (sym e) h
@@ -79,10 +80,10 @@ module _ {T Z : Type 0} (a : Algebra) (meaning : T → Meaning) (r : Reduction) 
         fault_weaker fault (λ n k. n (subst (All (ClearingInBounds DivisionInBounds a r t column (row_meant meaning row))) (sym removed_is)
         (k before after (row_meant meaning row) rows_are place_is).0)) h
 
-    pub split_not : (fault : RingFault) (x : Meaning) → x ≡ entry_at a.ops (row_meant meaning row) column → OnFault (¬ (r.SplitInBounds x)) fault
+    pub core_not : (fault : RingFault) (x : Meaning) → x ≡ entry_at a.ops (row_meant meaning row) column → OnFault (¬ (r.CoreInBounds x)) fault
         → OnFault (¬ InBounds) fault
-    split_not fault x f h =
-        fault_weaker fault (λ n k. n (subst r.SplitInBounds (sym f) (k before after (row_meant meaning row) rows_are place_is).1)) h
+    core_not fault x f h =
+        fault_weaker fault (λ n k. n (subst r.CoreInBounds (sym f) (k before after (row_meant meaning row) rows_are place_is).1)) h
 
 -- ---- the run over all columns
 isnt_true : (b : Bool) → IsFalse b → ¬ (IsTrue b)
@@ -148,11 +149,12 @@ module _ (a : Algebra) (r : Reduction) (rows : List (List Meaning)) where
       (climb h.before h.after pivot h.plain (subst (λ v. Run a r rows j v ps t) h.rows_are run)
       (subst (λ v. Chosen a r j (h.before ++ pivot ∷ h.after) v) h.place_is (subst (λ v. Chosen a r j v place) h.rows_are ch)) h.cleared h.split))))
 
-  pub round_not : (DivisionInBounds : Meaning → Meaning → Type 0) (columns j place : ℕ) (os : List (List Meaning)) (ps : List (ℕ × List Meaning))
-      (t : Meaning) (fault : RingFault) → j < columns → Run a r rows j os ps t → Chosen a r j os place
-      → OnFault (¬ (RoundInBounds DivisionInBounds a r t j os place)) fault → OnFault (¬ (RunInBounds DivisionInBounds a r columns rows)) fault
-  round_not DivisionInBounds columns j place os ps t fault b run ch h =
-      fault_weaker fault (λ n k. n (λ before after pivot e f. k.clearing j before after pivot ps t b
+  pub round_not : (DivisionInBounds : Meaning → Meaning → Type 0) (columns first j place : ℕ) (os : List (List Meaning))
+      (ps : List (ℕ × List Meaning)) (t : Meaning) (fault : RingFault) → j < columns → ArePivotColumns first j ps → Run a r rows j os ps t
+      → Chosen a r j os place → OnFault (¬ (RoundInBounds DivisionInBounds a r t j os place)) fault
+      → OnFault (¬ (RunInBounds DivisionInBounds a r columns first rows)) fault
+  round_not DivisionInBounds columns first j place os ps t fault b c run ch h =
+      fault_weaker fault (λ n k. n (λ before after pivot e f. k.clearing j before after pivot ps t b c
       (subst (λ v. Run a r rows j v ps t) e run)
       (subst (λ v. Chosen a r j (before ++ pivot ∷ after) v) f (subst (λ v. Chosen a r j v place) e ch)))) h
 

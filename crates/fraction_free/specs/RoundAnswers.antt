@@ -1,14 +1,17 @@
 -- What the calls on a column answer.
-use Rattle.std.specs.Prelude.{◌≡◌, ℕ, ◌<◌, List, ◌∷◌, ◌++◌, map, length, IsTrue, Result, Ok, Err, Option, Some, None, Vec, All}
+use Rattle.std.specs.Prelude.{◌≡◌, ℕ, suc, ◌<◌, List, ◌∷◌, ◌++◌, map, length, IsTrue, Result, Ok, Err, Option, Some, None, Vec, All}
 use Rattle.std.specs.List.{AllZip}
 use Rattle.ring_laws.specs.Meaning.{Meaning}
 use Rattle.ring_laws.specs.Algebra.{Algebra}
 use Rattle.ring_laws.specs.Answer.{OnFault}
 use Rattle.ring_laws.specs.declared.faults.RingFault.{RingFault}
 use Rattle.kernel_laws.specs.Rows.{entry_at}
+use Rattle.kernel_laws.specs.Pivots.{ArePivotColumns}
 use Rattle.kernel_laws.specs.Reduction.{Reduction}
-use Rattle.kernel_laws.specs.Elimination.{Cleared, ClearingInBounds, entry, ChosenOf, Chosen, IsFree}
+use Rattle.kernel_laws.specs.Elimination.{Cleared, ClearingInBounds, entry, ChosenOf, Chosen, IsFree, Ran}
+use Rattle.kernel_laws.specs.Answers.{IsFirstFree}
 use Rattle.fraction_free.specs.declared.rounds.PivotRow.{PivotRow}
+use Rattle.fraction_free.specs.declared.rounds.Eliminated.{Eliminated}
 use Rattle.fraction_free.specs.declared.rounds.Round.{Round}
 use Rattle.fraction_free.specs.RowAnswers.{rows_meant}
 
@@ -37,7 +40,7 @@ pub record Rounds (a : Algebra) (r : Reduction) (t : Meaning) (column : ℕ) (ro
 abbrev pub RoundInBounds : (Meaning → Meaning → Type 0) → (a : Algebra) → Reduction → Meaning → ℕ → List (List Meaning) → ℕ → Type 0
 RoundInBounds InBounds a r t column rows place =
     (before after : List (List Meaning)) (pivot : List Meaning) → rows ≡ before ++ pivot ∷ after → place ≡ length before
-    → All (ClearingInBounds InBounds a r t column pivot) (before ++ after) × r.SplitInBounds (entry_at a.ops pivot column)
+    → All (ClearingInBounds InBounds a r t column pivot) (before ++ after) × r.CoreInBounds (entry_at a.ops pivot column)
 
 abbrev pub GivesRound : {T : Type 0} → (T → Meaning) → (a : Algebra) → Reduction → Meaning → ℕ → List (List Meaning) → ℕ → Type 0
     → Result (Round T) RingFault → Type 0
@@ -49,8 +52,13 @@ GivesRound meaning a r t column rows place InBounds (Err fault) = OnFault (¬ In
 abbrev pub pivots_meant : {T : Type 0} → (T → Meaning) → List (PivotRow T) → List (ℕ × List Meaning)
 pivots_meant meaning pivots = map (λ p. (p.column, map meaning p.row.items)) pivots
 
--- pivot rows of which P holds; `TooLarge` only where a step is not in bounds
-abbrev pub GivesPivots : {T Z : Type 0} → (T → Meaning) → (List (ℕ × List Meaning) → Type 0) → Type 0
-    → Result (Vec (PivotRow T) Z) RingFault → Type 0
-GivesPivots meaning P InBounds (Ok pivots) = P (pivots_meant meaning pivots.items)
+-- elimination went up to the first free column from the first on, or through all columns, of which none is free from the first on
+abbrev pub RanTo : (a : Algebra) → Reduction → (columns first : ℕ) → List (List Meaning) → List (ℕ × List Meaning) → Option ℕ → Type 0
+RanTo a r columns first rows pivots (Some free) = Ran a r (suc free) rows pivots × IsFirstFree columns first pivots free
+RanTo a r columns first rows pivots None = Ran a r columns rows pivots × ArePivotColumns first columns pivots
+
+-- pivot rows and a free column of which P holds; `TooLarge` only where a step is not in bounds
+abbrev pub GivesPivots : {T : Type 0} → (T → Meaning) → (List (ℕ × List Meaning) → Option ℕ → Type 0) → Type 0
+    → Result (Eliminated T) RingFault → Type 0
+GivesPivots meaning P InBounds (Ok found) = P (pivots_meant meaning found.pivots.items) found.free
 GivesPivots meaning P InBounds (Err fault) = OnFault (¬ InBounds) fault

@@ -1,18 +1,16 @@
 //! A vector of the kernel, or the rank; and a basis of the kernel.
 
-ghost use Rattle.std.specs.Prelude.{◌≡◌, ◌<◌, ◌≤◌, length, map, List, All, MatchOption, ℕ};
+ghost use Rattle.std.specs.Prelude.{◌≡◌, ◌<◌, ◌≤◌, length, List, All};
 ghost use Rattle.ring_laws.specs.Meaning.{Meaning};
-ghost use Rattle.kernel_laws.specs.Pivots.{IsPivotColumn};
-ghost use Rattle.kernel_laws.specs.Answers.{Basis, VectorsOf, IsFreeColumn, IsFirstFree, StepsInBounds};
+ghost use Rattle.kernel_laws.specs.Answers.{Basis, VectorsOf, VectorInBounds, BasisInBounds};
 ghost use Rattle.fraction_free.specs.RowAnswers.{rows_meant, GivesRows};
-ghost use Rattle.fraction_free.specs.RoundAnswers.{pivots_meant};
 ghost use Rattle.fraction_free.specs.KernelAnswers.{Eliminates, IsByTheSteps, IsOnlyByTheSteps, AnswersBasis};
 
-use crate::rounds::{PivotRow, is_pivot, pivot_rows};
+use crate::rounds::{is_pivot, pivot_rows};
 use crate::vectors::free_vector;
 use either::Either;
 use reducing::Reducing;
-use ring_laws::{Ring, RingFault};
+use ring_laws::RingFault;
 use std::alloc::Global;
 
 /// A vector of the kernel, and the column at which it ends.
@@ -31,27 +29,12 @@ pub struct Pivots {
     pub rank: u32,
 }
 
-// The first column from `first` on without a pivot row.
-fn first_free<R: Ring>(pivots: &[PivotRow<R>], columns: usize, first: usize) -> Option<usize>
-    requires within { first < columns }
-    ensures first { MatchOption result
-        ((j : ℕ) → first ≤ j → j < columns → IsPivotColumn j (pivots_meant R.meaning pivots.now))
-        (IsFirstFree columns first (pivots_meant R.meaning pivots.now)) }
-{
-    for column in first..columns {
-        if !is_pivot(pivots, column) {
-            return Some(column);
-        }
-    }
-    None
-}
-
 /// A vector of the kernel of the rows that isn't zero at some column from `first` on, or the rank where there is none.
 ///
 /// The kernel is over all entries, of any size, that belong to the ring. `Left` has the vector whose last entry that isn't zero stands
 /// at the least column from `first` on at which any vector of the kernel has it.
 ///
-/// `TooLarge` comes only where a step of the elimination or of the back substitution is out of bounds.
+/// `TooLarge` comes only where a step of the elimination up to that column or of the back substitution is out of bounds.
 pub fn eliminate<R: Reducing>(
     alloc: Global,
     rows: Vec<Vec<R>>,
@@ -62,7 +45,7 @@ pub fn eliminate<R: Reducing>(
     requires within { first < columns }
     requires sizes { All (λ row. length row.items ≡ columns) rows.items }
     ensures kernel { Eliminates R.meaning R.algebra columns first (rows_meant R.meaning rows.items)
-        (StepsInBounds R.division_in_bounds R.algebra R.reduction columns (IsFirstFree columns first) (rows_meant R.meaning rows.items))
+        (VectorInBounds R.division_in_bounds R.algebra R.reduction columns first (rows_meant R.meaning rows.items))
         result }
 
     // The vector is the one that the steps give.
@@ -70,17 +53,17 @@ pub fn eliminate<R: Reducing>(
     ensures only { IsOnlyByTheSteps R.meaning R.algebra R.reduction columns (rows_meant R.meaning rows.items) result }
 {
     let width = columns as usize;
-    let pivots = pivot_rows(alloc, rows, width)?;
-    match first_free(&pivots, width, first as usize) {
+    let found = pivot_rows(alloc, rows, width, first as usize)?;
+    match found.free {
         Some(free) => {
-            let vector = free_vector(alloc, &pivots, width, free)?;
+            let vector = free_vector(alloc, &found.pivots, width, free)?;
             Ok(Either::Left(Kernel {
                 vector,
                 free: free as u32,
             }))
         }
         None => Ok(Either::Right(Pivots {
-            rank: pivots.len() as u32,
+            rank: found.pivots.len() as u32,
         })),
     }
 }
@@ -97,7 +80,7 @@ pub fn kernel_basis<R: Reducing>(
     requires some { (1 ≤ columns) × (columns ≤ 48) }
     requires sizes { All (λ row. length row.items ≡ columns) rows.items }
     ensures basis { GivesRows R.meaning (Basis R.algebra columns (rows_meant R.meaning rows.items))
-        (StepsInBounds R.division_in_bounds R.algebra R.reduction columns (IsFreeColumn columns) (rows_meant R.meaning rows.items))
+        (BasisInBounds R.division_in_bounds R.algebra R.reduction columns (rows_meant R.meaning rows.items))
         result }
 
     // The vectors are those that the steps give.
@@ -107,7 +90,8 @@ pub fn kernel_basis<R: Reducing>(
         result }
 {
     let width = columns as usize;
-    let pivots = pivot_rows(alloc, rows, width)?;
+    let found = pivot_rows(alloc, rows, width, width)?;
+    let pivots = found.pivots;
     let mut vectors = Vec::new(alloc);
     for column in 0..width {
         if !is_pivot(&pivots, column) {

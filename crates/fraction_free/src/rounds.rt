@@ -1,11 +1,11 @@
-//! The pivot rows: one round for each column, from the first to the last.
+//! The pivot rows: one round for each column, from the first column on.
 
 ghost use Rattle.std.specs.Prelude.{◌≡◌, ◌<◌, ◌≤◌, ◌+◌, IsTrue, IsFalse, ◌↔◌, MatchOption, length, map, All};
 ghost use Rattle.std.specs.List.{AllZip};
 ghost use Rattle.kernel_laws.specs.Pivots.{IsPivotColumn};
-ghost use Rattle.kernel_laws.specs.Elimination.{Cleared, ClearingInBounds, Chosen, Ran, RunInBounds};
+ghost use Rattle.kernel_laws.specs.Elimination.{Cleared, ClearingInBounds, Chosen, RunInBounds};
 ghost use Rattle.fraction_free.specs.RowAnswers.{rows_meant, GivesRows};
-ghost use Rattle.fraction_free.specs.RoundAnswers.{Best, Picks, GivesRound, GivesPivots, pivots_meant, RoundInBounds};
+ghost use Rattle.fraction_free.specs.RoundAnswers.{Best, Picks, GivesRound, RanTo, GivesPivots, pivots_meant, RoundInBounds};
 
 use crate::rows::clear_row;
 use reducing::Reducing;
@@ -17,6 +17,13 @@ use std::alloc::Global;
 pub struct PivotRow<R> {
     pub column: usize,
     pub row: Vec<R>,
+}
+
+/// The pivot rows, and the free column at which elimination ended, or none where it went through all columns.
+#[derive(Drop)]
+pub struct Eliminated<R> {
+    pub pivots: Vec<PivotRow<R>>,
+    pub free: Option<usize>,
 }
 
 // What one round leaves: the other open rows, cleared, the pivot row, and the core of the pivot.
@@ -111,7 +118,7 @@ fn clear_column<R: Reducing>(
     let mut others = rows;
     let pivot = others.remove(place);
     let open = clear_rows(alloc, others, &pivot, column, divisor)?;
-    let (_plain, core) = pivot[column].split(alloc)?;
+    let core = pivot[column].core(alloc)?;
     Ok(Round { open, pivot, core })
 }
 
@@ -128,15 +135,16 @@ fn reduce_rows<R: Reducing>(alloc: Global, rows: Vec<Vec<R>>) -> Result<Vec<Vec<
     Ok(out)
 }
 
-// The pivot rows of all columns.
+// The pivot rows of the columns up to the first free column from `first` on, or of all columns where there is none.
 pub fn pivot_rows<R: Reducing>(
     alloc: Global,
     rows: Vec<Vec<R>>,
     columns: usize,
-) -> Result<Vec<PivotRow<R>>, RingFault>
+    first: usize,
+) -> Result<Eliminated<R>, RingFault>
     requires sizes { All (λ row. length row.items ≡ columns) rows.items }
-    ensures runs { GivesPivots R.meaning (Ran R.algebra R.reduction columns (rows_meant R.meaning rows.items))
-        (RunInBounds R.division_in_bounds R.algebra R.reduction columns (rows_meant R.meaning rows.items)) result }
+    ensures runs { GivesPivots R.meaning (RanTo R.algebra R.reduction columns first (rows_meant R.meaning rows.items))
+        (RunInBounds R.division_in_bounds R.algebra R.reduction columns first (rows_meant R.meaning rows.items)) result }
 {
     let mut open = reduce_rows(alloc, rows)?;
     let mut pivots = Vec::new(alloc);
@@ -152,10 +160,17 @@ pub fn pivot_rows<R: Reducing>(
                     row: next.pivot,
                 })?;
             }
-            None => {}
+            None => {
+                if first <= column {
+                    return Ok(Eliminated {
+                        pivots,
+                        free: Some(column),
+                    });
+                }
+            }
         }
     }
-    Ok(pivots)
+    Ok(Eliminated { pivots, free: None })
 }
 
 // Whether a pivot row has this column.

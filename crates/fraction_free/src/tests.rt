@@ -80,30 +80,42 @@ fn has_vector<R: Reducing>(
 #[test]
 fn vectors_of_whole_numbers(rt: HostRuntime) -> Result<(), RingFault> {
     let alloc = rt.alloc();
-    let table: [(&[&[i128]], u32, u32, &[i128], u32); 4] = [
+    let table: [(&[&[i128]], u32, u32, &[i128], u32); 5] = [
         (&[&[1, 2], &[2, 4]], 2, 1, &[-2, 1], 1),
         (&[&[1, -1, 0]], 3, 0, &[1, 1, 0], 1),
         (&[&[0, 0]], 2, 1, &[0, 1], 1),
         (&[&[2, 3, 1], &[4, 5, 7]], 3, 0, &[-8, 5, 1], 2),
+        (&[&[0, 1 << 100, 1], &[0, (1 << 99) + 1, 1]], 3, 0, &[1, 0, 0], 0),
     ];
     for (rows, columns, first, wanted, free) in table {
         let rows = rows_of(alloc, rows, columns as usize)?;
         let wanted = numbers(alloc, wanted)?;
         assert!(rt; has_vector(alloc, rows, columns, first, &wanted, free)?);
     }
+    // the second column can't be cleared; elimination goes there only where the first one isn't wanted
+    let rows = rows_of(alloc, &[&[0, 1 << 100, 1], &[0, (1 << 99) + 1, 1]], 3)?;
+    assert!(rt; matches!(has_vector(alloc, rows, 3, 1, &[], 2), Err(RingFault::TooLarge)));
     Ok(())
 }
 
 // n*x = y; (n^2 - n)*x + n*y = 0, whose vector is reduced; a row of zeros; no rows; and two rows that are cleared over polynomials:
-// x + n*y = z and n*x + y = (n + 1)*z, so that (1 - n^2)*y = z, and z = 1 - n^2 gives y = 1 and x = 1 - n - n^2.
+// x + n*y = z and n*x + y = (n + 1)*z, so that (1 - n^2)*y = z, and z = 1 - n^2 gives y = 1 and x = 1 - n - n^2. That of
+// 2^126*(n^2 + 1)*x + y = 0 has a number of 127 bits.
 #[test]
 fn vectors_of_polynomials(rt: HostRuntime) -> Result<(), RingFault> {
     let alloc = rt.alloc();
-    let table: [(&[&[&[i128]]], u32, u32, &[&[i128]], u32); 5] = [
+    let table: [(&[&[&[i128]]], u32, u32, &[&[i128]], u32); 6] = [
         (&[&[&[0, 1], &[-1]]], 2, 1, &[&[1], &[0, 1]], 1),
         (&[&[&[0, -1, 1], &[0, 1]]], 2, 0, &[&[-1], &[-1, 1]], 1),
         (&[&[&[], &[]]], 2, 1, &[&[], &[1]], 1),
         (&[], 2, 0, &[&[1], &[]], 0),
+        (
+            &[&[&[1 << 126, 0, 1 << 126], &[1]]],
+            2,
+            1,
+            &[&[-1], &[1 << 126, 0, 1 << 126]],
+            1,
+        ),
         (
             &[&[&[1], &[0, 1], &[-1]], &[&[0, 1], &[1], &[-1, -1]]],
             3,

@@ -20,7 +20,7 @@ use Rattle.kernel_laws.proofs.Kernels.{first_of, rest_of, weaker}
 use Rattle.kernel_laws.proofs.Spanning.{vector_at, Each, spans}
 use Rattle.kernel_laws.proofs.Belonging.{bare_at, length-bare, kernel_down, kernel_up, ends_down, not_meaning}
 use Rattle.kernel_laws.proofs.ClearedRows.{domain}
-use Rattle.kernel_laws.proofs.RunKernels.{none_at}
+use Rattle.kernel_laws.proofs.PartRuns.{none_at}
 use Rattle.kernel_laws.proofs.Vectors.{kernel_vector}
 use Rattle.kernel_laws.proofs.BackRuns.{same_or_not}
 
@@ -102,7 +102,7 @@ module _ (a : Algebra) (l : Laws a) (dl : DomainLaws a) (r : Reduction) (rl : Re
   more_free : (j : ℕ) (frees : List ℕ) (vectors : List (List Meaning)) (vector : List Meaning) → j < n → ¬ (IsPivotColumn j ps)
       → BackRun a r n j ps vector → VectorsWell j frees vectors → VectorsWell (suc j) (frees ++ j ∷ []) (vectors ++ vector ∷ [])
   more_free j frees vectors vector b m q w =
-      let v = kernel_vector a l dl r rl u n rows long os ps t run j (record { within = b; free = m }) vector q in
+      let v = kernel_vector a l dl r rl u n rows long n (omega arith) os ps t run j b (record { within = b; free = m }) vector q in
       record {
         mades = w.mades ++ v.made ∷ [];
         mades_are = map-append (bare a) w.mades (v.made ∷ []) ∙ cc (w.mades_are, v.made_is);
@@ -152,14 +152,14 @@ module _ (a : Algebra) (l : Laws a) (dl : DomainLaws a) (r : Reduction) (rl : Re
     -- no vector of the kernel ends elsewhere
     pub others : (j : ℕ) → ¬ (Contains frees j) → NoneEnds a n (map (bare a) rows) j
     others j m v k e =
-        ⊎_elim (λ h. none_at a l dl r rl u n rows long os ps t run j h v k e) (λ h. m (w.has j e.within h)) (pivot_or_not j ps)
+        ⊎_elim (λ h. none_at a l dl r rl u n rows long n (omega arith) os ps t run j h v k e) (λ h. m (w.has j e.within h)) (pivot_or_not j ps)
 
     abbrev functions : List (ℕ → Passing a)
     functions = map (entry_at W) w.mades
 
     each : Each W l.ring n rows functions
     each j e =
-        let at_end : Contains frees j = w.has j e.ends.within (λ h. none_at a l dl r rl u n rows long os ps t run j h e.vector
+        let at_end : Contains frees j = w.has j e.ends.within (λ h. none_at a l dl r rl u n rows long n (omega arith) os ps t run j h e.vector
         (kernel_down a l.closed n rows e.vector (meant a e.vector) (λ k. refl) e.kernel)
         (ends_down a l.closed n e.vector (meant a e.vector) j (λ k. refl) e.ends)) in
         let z = zip_at EndsHere w.mades frees at_end.0 [] j w.ends at_end.1 in

@@ -10,7 +10,9 @@ pub mod Belonging
 pub mod ClearedRows
 pub mod Parts
 pub mod Runs
+pub mod PartRuns
 pub mod RunKernels
+pub mod FrontRuns
 pub mod Absorbing
 pub mod BackRuns
 pub mod Vectors

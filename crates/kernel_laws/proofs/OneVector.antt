@@ -1,5 +1,5 @@
 -- The vector that the steps of elimination and back substitution give at a column is the only one, and so are those of all free columns.
-use Rattle.std.specs.Prelude.{ℕ, List, [], ◌∷◌, ◌++◌, IsFalse}
+use Rattle.std.specs.Prelude.{ℕ, suc, List, [], ◌∷◌, ◌++◌, IsFalse}
 use Rattle.std.specs.List.{AllByRecursion}
 use Rattle.std.proofs.Common.{◌≡◌, ap, sym, subst, refl}
 use Rattle.std.proofs.Math.ListN.{set}
@@ -73,7 +73,7 @@ module _ (a : Algebra) (l : Laws a) (dl : DomainLaws a) (r : Reduction) (rl : Re
       → VectorOf a r columns rows column w → v ≡ w
   one_vector columns rows column v w h k =
       one_back columns column h.pivots v w (pivots_nonzero h.ran.run) h.back
-      (subst (λ ps. BackRun a r columns column ps w) (sym (one_ran a l dl r rl columns rows h.pivots k.pivots h.ran k.ran)) k.back)
+      (subst (λ ps. BackRun a r columns column ps w) (sym (one_ran a l dl r rl (suc column) rows h.pivots k.pivots h.ran k.ran)) k.back)
 
   one_of_all : (columns : ℕ) (pivots : Pivots) → AreNonzero pivots → {j : ℕ} {xs ys : List ℕ} {vs ws : List (List Meaning)}
       → FreeVectors a r columns pivots j xs vs → FreeVectors a r columns pivots j ys ws → vs ≡ ws

@@ -10,12 +10,12 @@ use Rattle.kernel_laws.specs.Pivots.{IsPivotColumn, rows_of}
 use Rattle.kernel_laws.specs.Reduction.{Reduction, ReductionLaws, bare}
 use Rattle.kernel_laws.specs.Elimination.{Run}
 use Rattle.kernel_laws.specs.Answers.{Vector, meant, NoneEnds, AllPivots}
-use Rattle.kernel_laws.proofs.Echelon.{Echelon, none_at_pivots, count}
+use Rattle.kernel_laws.proofs.Echelon.{count}
 use Rattle.poly_laws.proofs.Trimming.{zero_or_not}
-use Rattle.kernel_laws.proofs.Stairs.{SameKernel, echelon, all_same}
 use Rattle.kernel_laws.proofs.Belonging.{kernel_down, kernel_up, ends_up, ends_down}
 use Rattle.kernel_laws.proofs.ClearedRows.{domain}
-use Rattle.kernel_laws.proofs.Runs.{Well, sound}
+use Rattle.kernel_laws.proofs.Runs.{Well}
+use Rattle.kernel_laws.proofs.PartRuns.{well, pivot_rows_stand, pivots_on, pivots_back, none_at}
 
 -- a vector of a kernel whose vectors end at no column from the first on is zero there
 zero_down : {A : Type 0} (o : Ops A) (l : RingLaws o) (n first : ℕ) (v : ℕ → A) → ((j : ℕ) → first ≤ j → ¬ (EndsAt o n v j))
@@ -32,45 +32,17 @@ module _ (a : Algebra) (l : Laws a) (dl : DomainLaws a) (r : Reduction) (rl : Re
   abbrev W : Ops (Passing a)
   W = within a l.closed
 
-  abbrev pub PivotRow : Type 0
-  PivotRow = ℕ × List (Passing a)
-
-  abbrev pub bare_pivot : PivotRow → ℕ × List Meaning
-  bare_pivot p = (p.0, bare a p.1)
-
-  abbrev pub meanings : List (List Meaning)
+  abbrev meanings : List (List Meaning)
   meanings = map (bare a) rows
 
-  pub well : Well a l dl r rl u n rows n os ps t
-  well = sound a l dl r rl u n rows long run (omega arith)
+  whole : n ≤ n
+  whole = omega arith
 
-  pub pivot_rows_stand : Echelon W n 0 well.pivots
-  pivot_rows_stand = subst (Echelon W n 0) (append-nil well.pivots) (echelon W n well.pivots well.reached.stairs)
+  abbrev there : Well a l dl r rl u n rows n os ps t
+  there = well a l dl r rl u n rows long n whole os ps t run
 
-  pub pivots_same : SameKernel W n rows (rows_of well.pivots)
-  pivots_same = all_same W l.ring (domain a l dl n) n rows well.pivots well.open_rows well.reached
-
-  column_down : (i : ℕ) (qs : List PivotRow) → IsPivotColumn i (map bare_pivot qs) → IsPivotColumn i qs
-  column_down i [] h = h
-  column_down i (q ∷ qs) (inl h) = inl h
-  column_down i (q ∷ qs) (inr h) = inr (column_down i qs h)
-
-  column_up : (i : ℕ) (qs : List PivotRow) → IsPivotColumn i qs → IsPivotColumn i (map bare_pivot qs)
-  column_up i [] h = h
-  column_up i (q ∷ qs) (inl h) = inl h
-  column_up i (q ∷ qs) (inr h) = inr (column_up i qs h)
-
-  pub is_pivot : (i : ℕ) → IsPivotColumn i ps → IsPivotColumn i well.pivots
-  is_pivot i h = column_down i well.pivots (subst (IsPivotColumn i) (sym well.pivots_are) h)
-
-  pub isnt_pivot : (i : ℕ) → ¬ (IsPivotColumn i ps) → ¬ (IsPivotColumn i well.pivots)
-  isnt_pivot i m h = m (subst (IsPivotColumn i) well.pivots_are (column_up i well.pivots h))
-
-  -- no vector of the kernel ends at a pivot column
-  pub none_at : (i : ℕ) → IsPivotColumn i ps → NoneEnds a n meanings i
-  none_at i h v k e =
-      none_at_pivots W l.ring (domain a l dl n) n pivot_rows_stand i (is_pivot i h) v
-      (pivots_same.on v (kernel_up a l.closed n rows v k)) (ends_up a l.closed n v i e)
+  abbrev pivots : List (ℕ × List (Passing a))
+  pivots = there.pivots
 
   counted_same : (P Q : ℕ → Type 0) → ((j : ℕ) → P j → Q j) → ((j : ℕ) → Q j → P j) → {j m : ℕ} → Counted P n j m → Counted Q n j m
   counted_same P Q f g none = none
@@ -80,17 +52,17 @@ module _ (a : Algebra) (l : Laws a) (dl : DomainLaws a) (r : Reduction) (rl : Re
   -- the pivot rows are as many as the columns at which none ends
   pub rank_is : Counted (NoneEnds a n meanings) n 0 (length ps)
   rank_is =
-      subst (Counted (NoneEnds a n meanings) n 0) (sym (length-map well.pivots bare_pivot) ∙ ap length well.pivots_are)
-      (counted_same (λ j. (v : Vector a) → InKernel W n (rows_of well.pivots) v → ¬ (EndsAt W n v j)) (NoneEnds a n meanings)
-      (λ j h v k e. h v (pivots_same.on v (kernel_up a l.closed n rows v k)) (ends_up a l.closed n v j e))
-      (λ j h v k e. h v (kernel_down a l.closed n rows v (meant a v) (λ i. refl) (pivots_same.back v k))
+      subst (Counted (NoneEnds a n meanings) n 0) (sym (length-map pivots (λ (p : ℕ × List (Passing a)). (p.0, bare a p.1))) ∙ ap length there.pivots_are)
+      (counted_same (λ j. (v : Vector a) → InKernel W n (rows_of pivots) v → ¬ (EndsAt W n v j)) (NoneEnds a n meanings)
+      (λ j h v k e. h v (pivots_on a l dl r rl u n rows long n whole os ps t run v (kernel_up a l.closed n rows v k)) (ends_up a l.closed n v j e))
+      (λ j h v k e. h v (kernel_down a l.closed n rows v (meant a v) (λ i. refl) (pivots_back a l dl r rl u n rows long n whole os ps t run v (λ c d e. absurd (omega (arith, d, e))) k))
       (ends_down a l.closed n v (meant a v) j (λ i. refl) e))
-      (count W l.ring (domain a l dl n) n u pivot_rows_stand))
+      (count W l.ring (domain a l dl n) n u (pivot_rows_stand a l dl r rl u n rows long n whole os ps t run)))
 
   -- where each column from the first on has a pivot row
   pub all_pivots : (first : ℕ) → ((i : ℕ) → first ≤ i → i < n → IsPivotColumn i ps) → AllPivots a n first meanings (length ps)
   all_pivots first h = record {
     zero = λ v k i b c. ap (λ (x : Passing a). x.0) (zero_down W l.ring n first v
-        (λ j d e. none_at j (h j d e.within) v k (ends_down a l.closed n v (meant a v) j (λ x. refl) e)) n i b c (omega arith));
+        (λ j d e. none_at a l dl r rl u n rows long n whole os ps t run j (h j d e.within) v k (ends_down a l.closed n v (meant a v) j (λ x. refl) e)) n i b c (omega arith));
     counted = rank_is;
   }

@@ -1,5 +1,5 @@
 -- Pivot rows in the order in which they are found, and the statement of elimination from them.
-use Rattle.std.proofs.Common.{◌≡◌, ℕ, suc, ◌<◌, ◌≤◌, List, [], ◌∷◌, ◌++◌, ap, sym, ◌∙◌, subst, append_assoc, arith, All, ⊎_elim}
+use Rattle.std.proofs.Common.{◌≡◌, ℕ, zero, suc, ◌+◌, ◌-◌, ◌<◌, ◌≤◌, get_or, List, [], ◌∷◌, ◌++◌, ap, sym, ◌∙◌, subst, append_assoc, arith, All, ⊎_elim}
 use Rattle.std.proofs.lemmas.List.{map-append}
 use Rattle.std.proofs.lemmas.List.Elements.{All-nil, All-cons, All-append, All-push}
 use Rattle.std.proofs.lemmas.Bool.{cases_lt}
@@ -27,8 +27,12 @@ module _ {A : Type 0} (o : Ops A) (n : ℕ) where
   joined (climb {j} {ps} row t s) qs e =
       subst (Echelon o n 0) (sym (append_assoc ps ((j, row) ∷ []) qs)) (joined s ((j, row) ∷ qs) (pivot_row row t e))
 
-  pub echelon : (ps : List (ℕ × List A)) → Stairs o n ps → Echelon o n 0 (ps ++ [])
-  echelon ps s = joined s [] done
+  all_free : (d j : ℕ) → n ≡ j + d → Echelon o n j []
+  all_free zero j e = subst (λ k. Echelon o n k []) (omega (arith, e)) done
+  all_free (suc d) j e = free (all_free d (suc j) (omega (arith, e)))
+
+  pub echelon : (j : ℕ) (ps : List (ℕ × List A)) → j ≤ n → Stairs o j ps → Echelon o n 0 (ps ++ [])
+  echelon j ps b s = joined s [] (all_free (n - j) j (omega (arith, b)))
 
 -- two lists of rows with one kernel
 pub record SameKernel {A : Type 0} (o : Ops A) (n : ℕ) (rows others : List (List A)) : Type 0 where
@@ -141,11 +145,14 @@ module _ {A : Type 0} (o : Ops A) (l : RingLaws o) (d : NoDivisors o) (n : ℕ) 
           (All-cons (K v) pivot after e (All-right (K v) before after f)))
           (All-left (K v) (rows_of ps) (pivot ∷ []) b))
 
-  -- when all columns are done
-  pub all_same : (ps : List (ℕ × List A)) (os : List (List A)) → Reached o n rows n ps os → SameKernel o n rows (rows_of ps)
-  all_same ps os r = record {
-    on = λ v k. All-right (λ row. dot o n row v ≡ o.nought) os (rows_of ps) (r.same.on v k);
-    back =
-        λ v k. r.same.back v (All-append (λ row. dot o n row v ≡ o.nought) os (rows_of ps)
-        (λ i x b. total_nought o l n _ (λ t c. ap (λ y. o.product y (v t)) (r.cleared i x b t c) ∙ nought_product o l (v t))) k);
-  }
+  -- what the rows send to zero the pivot rows do, and the other way where it is zero at the columns that aren't done
+  pub pivots_send : {j : ℕ} {ps : List (ℕ × List A)} {os : List (List A)} → Reached o n rows j ps os → (v : ℕ → A) → InKernel o n rows v
+      → InKernel o n (rows_of ps) v
+  pivots_send {ps = ps} {os} r v k = All-right (λ row. dot o n row v ≡ o.nought) os (rows_of ps) (r.same.on v k)
+
+  pub rows_send : {j : ℕ} {ps : List (ℕ × List A)} {os : List (List A)} → Reached o n rows j ps os → (v : ℕ → A)
+      → ((k : ℕ) → j ≤ k → k < n → v k ≡ o.nought) → InKernel o n (rows_of ps) v → InKernel o n rows v
+  rows_send {j} {ps} {os} r v z k =
+      r.same.back v (All-append (λ row. dot o n row v ≡ o.nought) os (rows_of ps)
+      (λ i x b. total_nought o l n _ (λ t c. ⊎_elim (λ e. ap (λ y. o.product y (v t)) (r.cleared i x b t e) ∙ nought_product o l (v t))
+      (λ e. ap (o.product (entry_at o (get_or os i x) t)) (z t e c) ∙ product_nought o l (entry_at o (get_or os i x) t)) (cases_lt t j))) k)

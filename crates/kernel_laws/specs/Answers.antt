@@ -1,12 +1,12 @@
 -- What elimination answers of the kernel. Its vectors have entries of any size: all meanings that belong to the ring.
-use Rattle.std.specs.Prelude.{◌≡◌, ℕ, ◌<◌, ◌≤◌, List, map, length, All}
+use Rattle.std.specs.Prelude.{◌≡◌, ℕ, suc, ◌<◌, ◌≤◌, List, map, length, All}
 use Rattle.std.specs.List.{AllZip, Contains}
 use Rattle.std.specs.List.Sorted.{IsStrictlyIncreasing}
 use Rattle.ring_laws.specs.Meaning.{Meaning}
 use Rattle.ring_laws.specs.Algebra.{Algebra, Passing}
 use Rattle.kernel_laws.specs.Rows.{entry_at, InKernel}
 use Rattle.kernel_laws.specs.Kernels.{EndsAt, Counted, combined}
-use Rattle.kernel_laws.specs.Pivots.{IsPivotColumn}
+use Rattle.kernel_laws.specs.Pivots.{IsPivotColumn, ArePivotColumns}
 use Rattle.kernel_laws.specs.Reduction.{Reduction}
 use Rattle.kernel_laws.specs.Elimination.{Ran, RunInBounds}
 use Rattle.kernel_laws.specs.BackSubstitution.{BackRun, FreeVectors, BackInBounds}
@@ -52,11 +52,12 @@ pub record Basis (a : Algebra) (columns : ℕ) (rows : List (List Meaning)) (vec
   pub others : (j : ℕ) → ¬ (Contains frees j) → NoneEnds a columns rows j
   pub spans : (w : Vector a) → InKernel a.ops columns rows (meant a w) → Combination a columns vectors w
 
--- the vector that the steps of elimination and back substitution give at a column
+-- the vector that the steps give at a free column: elimination goes up to that column, and back substitution through the pivot rows before it
 pub record VectorOf (a : Algebra) (r : Reduction) (columns : ℕ) (rows : List (List Meaning)) (free : ℕ) (vector : List Meaning) : Type
     0 where
   pub pivots : List (ℕ × List Meaning)
-  pub ran : Ran a r columns rows pivots
+  pub ran : Ran a r (suc free) rows pivots
+  pub is_free : ¬ (IsPivotColumn free pivots)
   pub back : BackRun a r columns free pivots vector
 
 -- the vectors that they give at the free columns
@@ -75,11 +76,18 @@ pub record IsFreeColumn (columns : ℕ) (pivots : List (ℕ × List Meaning)) (c
 pub record IsFirstFree (columns first : ℕ) (pivots : List (ℕ × List Meaning)) (column : ℕ) : Type 0 where
   pub free : IsFreeColumn columns pivots column
   pub from : first ≤ column
-  pub before : (j : ℕ) → first ≤ j → j < column → IsPivotColumn j pivots
+  pub before : ArePivotColumns first column pivots
 
--- each step of elimination is in bounds, and of the vectors at the columns that are wanted
-pub record StepsInBounds (InBounds : Meaning → Meaning → Type 0) (a : Algebra) (r : Reduction) (columns : ℕ)
-    (Wanted : List (ℕ × List Meaning) → ℕ → Type 0) (rows : List (List Meaning)) : Type 0 where
-  pub run : RunInBounds InBounds a r columns rows
-  pub vectors : (pivots : List (ℕ × List Meaning)) → Ran a r columns rows pivots → (column : ℕ) → Wanted pivots column
+-- each step of elimination up to the first free column is in bounds, and each of the vector at that column
+pub record VectorInBounds (InBounds : Meaning → Meaning → Type 0) (a : Algebra) (r : Reduction) (columns first : ℕ)
+    (rows : List (List Meaning)) : Type 0 where
+  pub run : RunInBounds InBounds a r columns first rows
+  pub vector : (free : ℕ) (pivots : List (ℕ × List Meaning)) → Ran a r (suc free) rows pivots → IsFirstFree columns first pivots free
+      → BackInBounds InBounds a r columns free pivots
+
+-- each step of elimination through all columns is in bounds, and each of the vectors at the free columns
+pub record BasisInBounds (InBounds : Meaning → Meaning → Type 0) (a : Algebra) (r : Reduction) (columns : ℕ)
+    (rows : List (List Meaning)) : Type 0 where
+  pub run : RunInBounds InBounds a r columns columns rows
+  pub vectors : (column : ℕ) (pivots : List (ℕ × List Meaning)) → Ran a r columns rows pivots → IsFreeColumn columns pivots column
       → BackInBounds InBounds a r columns column pivots

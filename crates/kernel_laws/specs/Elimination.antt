@@ -4,6 +4,7 @@ use Rattle.std.specs.List.{AllZip}
 use Rattle.ring_laws.specs.Meaning.{Meaning}
 use Rattle.ring_laws.specs.Algebra.{Algebra, Passing}
 use Rattle.kernel_laws.specs.Rows.{entry_at}
+use Rattle.kernel_laws.specs.Pivots.{ArePivotColumns}
 use Rattle.kernel_laws.specs.RowSteps.{crossed, CrossingInBounds, Divided, QuotientsInBounds}
 use Rattle.kernel_laws.specs.Reduction.{Reduction, bare}
 
@@ -71,16 +72,17 @@ pub data Run (a : Algebra) (r : Reduction) (rows : List (List Meaning)) : ℕ �
       → Chosen a r j (before ++ pivot ∷ after) (length before) → AllZip (Cleared a r t j pivot) (before ++ after) news
       → r.Split (entry_at a.ops pivot j) plain core → Run a r rows (suc j) news (pivots ++ (j, pivot) ∷ []) core
 
--- a run through all columns that ends with these pivot rows
+-- a run through so many columns that ends with these pivot rows
 pub record Ran (a : Algebra) (r : Reduction) (columns : ℕ) (rows : List (List Meaning)) (pivots : List (ℕ × List Meaning)) : Type 0 where
   pub open_rows : List (List Meaning)
   pub divisor : Meaning
   pub run : Run a r rows columns open_rows pivots divisor
 
--- each step of every such run is in bounds
-pub record RunInBounds (InBounds : Meaning → Meaning → Type 0) (a : Algebra) (r : Reduction) (columns : ℕ)
+-- each step of every such run is in bounds, up to the first column from the first on that is free
+pub record RunInBounds (InBounds : Meaning → Meaning → Type 0) (a : Algebra) (r : Reduction) (columns first : ℕ)
     (rows : List (List Meaning)) : Type 0 where
   pub reduction : All r.ReductionInBounds rows
   pub clearing : (j : ℕ) (before after : List (List Meaning)) (pivot : List Meaning) (pivots : List (ℕ × List Meaning)) (t : Meaning)
-      → j < columns → Run a r rows j (before ++ pivot ∷ after) pivots t → Chosen a r j (before ++ pivot ∷ after) (length before)
-      → All (ClearingInBounds InBounds a r t j pivot) (before ++ after) × r.SplitInBounds (entry_at a.ops pivot j)
+      → j < columns → ArePivotColumns first j pivots → Run a r rows j (before ++ pivot ∷ after) pivots t
+      → Chosen a r j (before ++ pivot ∷ after) (length before)
+      → All (ClearingInBounds InBounds a r t j pivot) (before ++ after) × r.CoreInBounds (entry_at a.ops pivot j)

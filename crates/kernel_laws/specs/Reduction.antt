@@ -11,9 +11,15 @@ pub record Reduction : Type 1 where
   pub Reduced : List Meaning → List Meaning → Type 0
   -- the second is the plain part of the first, and the third its core
   pub Split : Meaning → Meaning → Meaning → Type 0
-  -- each step of reducing the row, or of splitting the value, is in bounds
+  -- each step of reducing the row, of splitting the value, or of finding its core alone, is in bounds
   pub ReductionInBounds : List Meaning → Type 0
   pub SplitInBounds : Meaning → Type 0
+  pub CoreInBounds : Meaning → Type 0
+
+-- the core of x, beside some plain part of any size
+pub record IsCoreBy (r : Reduction) (x core : Meaning) : Type 0 where
+  pub plain : Meaning
+  pub split : r.Split x plain core
 
 -- the meanings of a row of values of the ring
 abbrev pub bare : (a : Algebra) → List (Passing a) → List Meaning

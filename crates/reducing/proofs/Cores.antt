@@ -1,23 +1,17 @@
 -- The core of a polynomial: what is left of the row that has it alone, with the sign that makes its lead positive.
-use Rattle.std.specs.Option.{IsSome}
-use Rattle.std.proofs.Common.{◌≡◌, Bool, true, false, IsFalse, List, [], ◌∷◌, ◌++◌, length, get_or, refl, ap, ◌∙◌, subst, sym, arith, ⊎_elim, Result, Ok, Err, IfOk, IfErr, Option, Some, None, IsErrAnd}
+use Rattle.std.proofs.Common.{◌≡◌, IsFalse, List, [], ◌∷◌, ◌++◌, length, get_or, refl, ap, ◌∙◌, subst, sym, arith, Result, Ok, Err, IfOk, IfErr}
 use Rattle.std.proofs.lemmas.List.{length-map}
-use Rattle.ring_solver.proofs.Read.{reading, ring}
 use Rattle.ring_laws.specs.Meaning.{Meaning}
 use Rattle.ring_laws.specs.Algebra.{Passing, same_passing}
-use Rattle.ring_laws.specs.Answer.{OnFault, fault_weaker, fault_memory}
-use Rattle.ring_laws.specs.Division.{Divides}
+use Rattle.ring_laws.specs.Answer.{fault_memory}
 use Rattle.ring_laws.specs.declared.faults.RingFault.{RingFault}
 use Rattle.ring_laws.specs.declared.faults.RingFault.TheVariants.{Memory}
 use Rattle.poly_laws.proofs.ListLaws.{nought_product}
 use Rattle.whole_roots.specs.Differences.{polynomials}
-use Rattle.poly_laws.proofs.Rings.{solvable}
-use Rattle.reducing.specs.RowAnswer.{GivesParts}
 use Rattle.reducing.specs.TakenOutLaws.{Multiple}
-use Rattle.reducing.specs.PolynomialRows.{Row, meant, Reduced, PolynomialsReduced, PolynomialsInBounds, IsCore, PolynomialSplit, DivisionOfPolynomials, SplittingInBounds}
+use Rattle.reducing.specs.PolynomialRows.{Row, meant, Reduced, PolynomialsReduced, PolynomialsInBounds, IsCore}
 use Rattle.reducing.specs.FactorLists.{laws, domain, P}
 use Rattle.reducing.specs.PolynomialLaws.{multiple, polynomials_reduce}
-use Rattle.reducing.specs.SplitLaws.{lead_of_zero}
 use Rattle.reducing.specs.PolynomialAnswers.{HasPositiveLead, GivesCore}
 use Rattle.reducing.proofs.Polynomials.{Zn, sense, sense_passes, senses}
 use Rattle.reducing.proofs.WithoutFactor.{row_is}
@@ -88,63 +82,3 @@ gives_core x [] g r h e n p f = absurd (omega (arith, one_left x [] h))
 gives_core x (k ∷ []) g (Ok out) h e n p f = core_is x g (subst (λ t. PolynomialsReduced (x ∷ []) (senses (t ∷ []))) (sym e) h) n (sense out) p
 gives_core x (k ∷ []) g (Err fault) h e n p f = fault_memory (¬ (PolynomialsInBounds (x ∷ []))) fault f
 gives_core x (k ∷ l ∷ ls) g r h e n p f = absurd (omega (arith, one_left x (k ∷ l ∷ ls) h))
-
--- ---- the plain part
-quotient : (x core : Meaning) → IsCore x core → (q : Passing polynomials) × (polynomials.ops.product q.0 core ≡ x)
-quotient x core h = ⊎_elim same opposite h.core_is
-  where
-    factor : Multiple polynomials laws domain (h.value ∷ []) (h.rest ∷ [])
-    factor = multiple (h.value ∷ []) (h.rest ∷ []) h.reduced
-
-    head : {v w : Passing polynomials} → v ∷ [] ≡ w ∷ [] → v ≡ w
-    head e = cc
-
-    value_is : P.product factor.factor h.rest ≡ h.value
-    value_is = laws.ring.product_comm factor.factor h.rest ∙ sym (head factor.is)
-
-    negatives : (r q : Passing polynomials) → P.product (P.neg r) (P.neg q) ≡ P.product r q
-    negatives r q = ring (solvable P laws.ring) (r ∷ q ∷ []) (search reading depth 40 fits 20000) refl
-
-    same : core ≡ h.rest.0 → (q : Passing polynomials) × (polynomials.ops.product q.0 core ≡ x)
-    same e = (factor.factor, ap (polynomials.ops.product factor.factor.0) e ∙ ap (λ (v : Passing polynomials). v.0) value_is ∙ sym h.value_is)
-
-    opposite : core ≡ polynomials.ops.neg h.rest.0 → (q : Passing polynomials) × (polynomials.ops.product q.0 core ≡ x)
-    opposite e = (
-      P.neg factor.factor,
-      ap (polynomials.ops.product (P.neg factor.factor).0) e ∙ ap (λ (v : Passing polynomials). v.0) (negatives factor.factor h.rest ∙ value_is)
-          ∙ sym h.value_is,
-    )
-
-pub some_plain : (x : Meaning) (core : Zn) (r : Option Zn) → IsCore x (sense core)
-    → Divides sense polynomials (DivisionOfPolynomials x (sense core)) x (sense core) (Ok r) → IsSome r
-some_plain x core (Some q) h k = refl
-some_plain x core None h k = let q = quotient x (sense core) h in absurd (k q.0 q.1)
-
-pub core_not_zero : (x : Meaning) (core : Zn) → IsCore x (sense core) → IsFalse (polynomials.ops.is_nought (sense core))
-core_not_zero x core h = by_test (polynomials.ops.is_nought (sense core)) refl
-  where
-    by_test : (b : Bool) → polynomials.ops.is_nought (sense core) ≡ b → IsFalse b
-    by_test true e = absurd (lead_of_zero (sense core)
-        (ap (λ (v : Passing polynomials). v.0) ((laws.ring.is_nought (sense core, sense_passes core)).0 e)) h.positive)
-    by_test false e = refl
-
-pub parts : (x : Meaning) (core plain : Zn) (r : Option Zn) → r ≡ Some plain → IsCore x (sense core)
-    → Divides sense polynomials (DivisionOfPolynomials x (sense core)) x (sense core) (Ok r) → PolynomialSplit x (sense plain) (sense core)
-parts x core plain r e h k = record {
-  is_core = h;
-  plain_part = (sense plain, sense_passes plain);
-  plain_is = refl;
-  product = subst (λ o. Divides sense polynomials (DivisionOfPolynomials x (sense core)) x (sense core) (Ok o)) e k;
-}
-
-pub fault_parts : (x : Meaning) (r : Result (record { 0 : Zn; 1 : Zn }) RingFault) (fault : RingFault) → IsErrAnd r (λ e. e ≡ fault)
-    → OnFault (¬ (SplittingInBounds x)) fault → GivesParts sense (PolynomialSplit x) (SplittingInBounds x) r
-fault_parts x (Ok v) fault e h = absurd e
-fault_parts x (Err d) fault e h = subst (OnFault (¬ (SplittingInBounds x))) (sym e) h
-
-pub core_fault : (x : Meaning) (fault : RingFault) → OnFault (¬ (PolynomialsInBounds (x ∷ []))) fault → OnFault (¬ (SplittingInBounds x)) fault
-core_fault x fault h = fault_weaker fault (λ n s. n s.core) h
-
-pub plain_fault : (x core : Meaning) (fault : RingFault) → IsCore x core → OnFault (¬ (DivisionOfPolynomials x core)) fault
-    → OnFault (¬ (SplittingInBounds x)) fault
-plain_fault x core fault h k = fault_weaker fault (λ n s. n (s.plain core h)) k

@@ -10,6 +10,8 @@ mod RowContents
 mod ReducedRows
 mod Leads
 mod Cores
+mod PlainParts
+mod OverContents
 mod KnownRows
 pub mod CommonForms
 pub mod CommonNumbers

@@ -6,14 +6,15 @@ use Rattle.std.proofs.lemmas.Simd.{map-map}
 use Rattle.std.proofs.Math.Nat.{eq-zero_of_zero-dvd}
 use Rattle.ring_solver.proofs.Read.{ring_z, reading_z}
 use Rattle.ring_laws.specs.Meaning.{Meaning, number}
-use Rattle.ring_laws.specs.Answer.{fault_memory}
+use Rattle.ring_laws.specs.Answer.{Gives, fault_memory, fault_weaker}
 use Rattle.ring_laws.specs.WholeDomain.{abs_nought}
 use Rattle.ring_laws.specs.declared.wholes.Whole.{Whole}
 use Rattle.ring_laws.specs.declared.faults.RingFault.{RingFault}
 use Rattle.ring_laws.specs.declared.faults.RingFault.TheVariants.{Memory}
 use Rattle.poly_divide.specs.Content.{DividesAll, IsContent}
-use Rattle.reducing.specs.RowAnswer.{GivesRow}
-use Rattle.reducing.specs.WholeRows.{WholeReduced}
+use Rattle.kernel_laws.specs.Reduction.{IsCoreBy}
+use Rattle.reducing.specs.RowAnswer.{GivesRow, GivesPart}
+use Rattle.reducing.specs.WholeRows.{WholeReduced, whole_reduction}
 
 abbrev values : List Whole → List ℤ
 values row = map (λ w. w.value) row
@@ -81,3 +82,9 @@ pub reduced : {Z : Type 0} (row : List Whole) (d : ℤ) (r : Result (Vec Whole Z
     → GivesRow (λ (w : Whole). number w.value) (WholeReduced (meant row)) ⊤ r
 reduced row d (Ok out) h s m e f = quotients row out.items d h s m e
 reduced row d (Err fault) h s m e f = fault_memory (¬ ⊤) fault f
+
+-- the core of a number, which is 1
+pub core_alone : (x : ℤ) (r : Result Whole RingFault) → Gives (λ (w : Whole). number w.value) (number (pos 1)) r
+    → GivesPart (λ (w : Whole). number w.value) (IsCoreBy whole_reduction (number x)) ⊤ r
+core_alone x (Ok core) h = record { plain = number x; split = record { value = x; value_is = refl; plain_is = refl; core_is = h } }
+core_alone x (Err fault) h = fault_weaker fault absurd h

@@ -43,7 +43,7 @@ polynomials_reduce old new h =
     (subst (λ r. Reduces polynomials (meant h.row) r) (sym h.result_is)
     (multiple_reduces polynomials laws domain h.row h.result (multiple h.row h.result h.holds)))
 
-one_quotients : (old quotients others : Row) → WithoutContent old quotients → WithoutContent old others → quotients ≡ others
+pub one_quotients : (old quotients others : Row) → WithoutContent old quotients → WithoutContent old others → quotients ≡ others
 one_quotients old quotients others h k =
     cancel_row polynomials laws domain (P.whole (pos h.content)) (whole_not_zero h.content h.not_zero) quotients others
     (sym (scaled_is polynomials laws domain (P.whole (pos h.content)) old quotients h.times)

@@ -1,7 +1,7 @@
 -- Rows of polynomials in n, reduced by their content and by the linear factors of an entry; and a polynomial, split.
-use Rattle.std.specs.Prelude.{◌≡◌, ℕ, ◌<◌, ◌≤◌, ◌-◌, ℤ, pos, ◌<ℤ◌, ◌⊎◌, List, [], ◌∷◌, map, length, IsFalse, ⊤}
+use Rattle.std.specs.Prelude.{◌≡◌, ℕ, ◌<◌, ◌≤◌, ◌-◌, ℤ, pos, ◌<ℤ◌, unsigned_abs, ◌⊎◌, List, [], ◌∷◌, map, length, IsFalse, ⊤}
 use Rattle.ring_laws.specs.Meaning.{Meaning, items}
-use Rattle.ring_laws.specs.Algebra.{Passing}
+use Rattle.ring_laws.specs.Algebra.{Passing, ProductInBounds}
 use Rattle.ring_laws.specs.Wholes.{number_of, whole_algebra}
 use Rattle.poly_laws.specs.Lists.{coefficient_at}
 use Rattle.poly_laws.specs.LongDivision.{DivisionInBounds}
@@ -107,10 +107,27 @@ pub record PolynomialSplit (x plain core : Meaning) : Type 0 where
   pub plain_is : plain ≡ plain_part.0
   pub product : polynomials.ops.product plain core ≡ x
 
--- what finds the core is in bounds, and the division by it that gives the plain part
+-- what finds the core of x is in bounds
+abbrev pub CoreInBounds : Meaning → Type 0
+CoreInBounds x = PolynomialsInBounds (x ∷ [])
+
+-- x is its whole content, which isn't 0, times a part
+pub record IsTimesContent (x : Meaning) (content : ℤ) (part : Meaning) : Type 0 where
+  pub value : Passing polynomials
+  pub value_is : x ≡ value.0
+  pub rest : Passing polynomials
+  pub rest_is : part ≡ rest.0
+  pub is_content : IsContent (row_sizes (x ∷ [])) (unsigned_abs content)
+  pub positive : pos 0 <ℤ content
+  pub times : x ≡ polynomials.ops.product part (polynomials.ops.whole content)
+
+-- what finds the core is in bounds; then the division of x over its content by the core, and the product of the quotient with the content,
+-- which is the plain part
 pub record SplittingInBounds (x : Meaning) : Type 0 where
-  pub core : PolynomialsInBounds (x ∷ [])
-  pub plain : (core : Meaning) → IsCore x core → DivisionOfPolynomials x core
+  pub core : CoreInBounds x
+  pub division : (content : ℤ) (part core : Meaning) → IsTimesContent x content part → IsCore x core → DivisionOfPolynomials part core
+  pub product : (content : ℤ) (part core quotient : Meaning) → IsTimesContent x content part → IsCore x core
+      → polynomials.ops.product quotient core ≡ part → ProductInBounds polynomials quotient (polynomials.ops.whole content)
 
 abbrev pub polynomial_reduction : Reduction
 polynomial_reduction = record {
@@ -119,4 +136,5 @@ polynomial_reduction = record {
   Split = PolynomialSplit;
   ReductionInBounds = PolynomialsInBounds;
   SplitInBounds = SplittingInBounds;
+  CoreInBounds = CoreInBounds;
 }

@@ -9,6 +9,11 @@ abbrev pub GivesRow : {T Z : Type 0} → (T → Meaning) → (List Meaning → T
 GivesRow meaning P InBounds (Ok row) = P (map meaning row.items)
 GivesRow meaning P InBounds (Err fault) = OnFault (¬ InBounds) fault
 
+-- a part of which P holds; `TooLarge` comes only where a step is not in bounds
+abbrev pub GivesPart : {T : Type 0} → (T → Meaning) → (Meaning → Type 0) → Type 0 → Result T RingFault → Type 0
+GivesPart meaning P InBounds (Ok part) = P (meaning part)
+GivesPart meaning P InBounds (Err fault) = OnFault (¬ InBounds) fault
+
 -- two parts of which P holds; `TooLarge` comes only where a step is not in bounds
 abbrev pub GivesParts : {T : Type 0} → (T → Meaning) → (Meaning → Meaning → Type 0) → Type 0 → Result (record { 0 : T; 1 : T }) RingFault → Type 0
 GivesParts meaning P InBounds (Ok parts) = P (meaning parts.0) (meaning parts.1)

@@ -29,4 +29,5 @@ whole_reduction = record {
   Split = WholeSplit;
   ReductionInBounds = λ row. ⊤;
   SplitInBounds = λ x. ⊤;
+  CoreInBounds = λ x. ⊤;
 }

@@ -1,8 +1,8 @@
 //! The trait of domains whose rows can be reduced.
 
 ghost use Rattle.std.specs.Prelude.{◌≡◌, map, IsFalse};
-ghost use Rattle.kernel_laws.specs.Reduction.{Reduction, ReductionLaws};
-ghost use Rattle.reducing.specs.RowAnswer.{GivesRow, GivesParts};
+ghost use Rattle.kernel_laws.specs.Reduction.{Reduction, IsCoreBy, ReductionLaws};
+ghost use Rattle.reducing.specs.RowAnswer.{GivesRow, GivesPart, GivesParts};
 
 use ring_laws::{Domain, RingFault};
 use std::alloc::Global;
@@ -32,6 +32,13 @@ pub trait Reducing: Domain {
         requires not_zero { IsFalse (Self.algebra.ops.is_nought (Self.meaning self.now)) }
         ensures splits { GivesParts Self.meaning (reduction.Split (Self.meaning self.now)) (reduction.SplitInBounds (Self.meaning self.now))
             result };
+
+    /// The core alone of a value that isn't zero, where its plain part isn't wanted.
+    ///
+    /// `TooLarge` comes only where a step of finding the core is out of bounds.
+    fn core(&self, alloc: Global) -> Result<Self, RingFault>
+        requires not_zero { IsFalse (Self.algebra.ops.is_nought (Self.meaning self.now)) }
+        ensures core { GivesPart Self.meaning (IsCoreBy reduction (Self.meaning self.now)) (reduction.CoreInBounds (Self.meaning self.now)) result };
 
     // The reduced row and the parts are as the calls say, and each is the only one.
     ghost reduction_laws: { ReductionLaws Self.algebra reduction };

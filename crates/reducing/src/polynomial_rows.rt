@@ -3,8 +3,9 @@
 ghost use Rattle.std.specs.Prelude.{◌≡◌, ◌↔◌, ◌<ℤ◌, pos, map, IfOk, IfErr, IsTrue, IsFalse};
 ghost use Rattle.ring_laws.specs.declared.faults.RingFault.TheVariants.{Memory};
 ghost use Rattle.whole_roots.specs.Differences.{polynomials};
-ghost use Rattle.reducing.specs.RowAnswer.{GivesRow, GivesParts};
-ghost use Rattle.reducing.specs.PolynomialRows.{lead_number, PolynomialsReduced, PolynomialsInBounds, PolynomialSplit, SplittingInBounds, polynomial_reduction};
+ghost use Rattle.kernel_laws.specs.Reduction.{IsCoreBy};
+ghost use Rattle.reducing.specs.RowAnswer.{GivesRow, GivesPart, GivesParts};
+ghost use Rattle.reducing.specs.PolynomialRows.{lead_number, PolynomialsReduced, PolynomialsInBounds, PolynomialSplit, IsTimesContent, CoreInBounds, SplittingInBounds, polynomial_reduction};
 ghost use Rattle.reducing.specs.PolynomialAnswers.{HasPositiveLead, GivesCore};
 ghost use Rattle.reducing.specs.SplitLaws.{polynomial_reduction_laws};
 
@@ -13,7 +14,7 @@ use crate::factors_out::without_factors;
 use crate::least_entries::{degree_of, least_place};
 use crate::row_contents::{content_of, without_content};
 use poly_generic::Zn;
-use ring_laws::{Domain, Ring, RingFault};
+use ring_laws::{Domain, Ring, RingFault, Whole};
 use std::alloc::Global;
 use whole_roots::linear_factors;
 
@@ -65,6 +66,20 @@ fn core_of(alloc: Global, f: &Zn) -> Result<Zn, RingFault>
     with_positive_lead(alloc, row.remove(0))
 }
 
+// The polynomial without its content, and the content.
+fn over_content(alloc: Global, f: &Zn) -> Result<(Zn, Whole), RingFault>
+    requires not_zero { IsFalse (polynomials.ops.is_nought (⟦<Zn as Ring>⟧.meaning f.now)) }
+    ensures parts { IfOk result (λ out. IsTimesContent (⟦<Zn as Ring>⟧.meaning f.now) out.1.value (⟦<Zn as Ring>⟧.meaning out.0)) }
+    ensures memory { IfErr result (λ fault. fault ≡ Memory) }
+{
+    let copy = f.duplicate(alloc)?;
+    let mut row = Vec::new(alloc);
+    row.push(copy)?;
+    let content = content_of(&row);
+    let mut quotients = without_content(alloc, row, content)?;
+    Ok((quotients.remove(0), content))
+}
+
 impl Reducing for Zn {
     ghost reduction = { polynomial_reduction };
 
@@ -87,7 +102,18 @@ impl Reducing for Zn {
             (SplittingInBounds (⟦<Zn as Ring>⟧.meaning self.now)) result }
     {
         let core = core_of(alloc, self)?;
-        let plain = self.divide_exact(alloc, &core)?;
-        Ok((plain.unwrap(), core))
+        let (part, content) = over_content(alloc, self)?;
+        let quotient = part.divide_exact(alloc, &core)?.unwrap();
+        let content = Zn::whole(alloc, content)?;
+        let plain = quotient.mul(alloc, &content)?;
+        Ok((plain, core))
+    }
+
+    fn core(&self, alloc: Global) -> Result<Zn, RingFault>
+        requires not_zero { IsFalse (polynomials.ops.is_nought (⟦<Zn as Ring>⟧.meaning self.now)) }
+        ensures core { GivesPart ⟦<Zn as Ring>⟧.meaning (IsCoreBy polynomial_reduction (⟦<Zn as Ring>⟧.meaning self.now))
+            (CoreInBounds (⟦<Zn as Ring>⟧.meaning self.now)) result }
+    {
+        core_of(alloc, self)
     }
 }

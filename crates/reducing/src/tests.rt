@@ -53,6 +53,14 @@ fn has_parts<R: Reducing>(
     Ok(parts.0.same(plain) && parts.1.same(core) && product.same(value))
 }
 
+// Whether this is the core of the value.
+fn has_core<R: Reducing>(alloc: Global, value: &R, core: &R) -> Result<bool, RingFault> {
+    if value.is_zero() {
+        return Ok(false);
+    }
+    Ok(value.core(alloc)?.same(core))
+}
+
 #[test]
 fn rows_of_whole_numbers(rt: HostRuntime) -> Result<(), RingFault> {
     let alloc = rt.alloc();
@@ -95,9 +103,11 @@ fn parts_of_a_value(rt: HostRuntime) -> Result<(), RingFault> {
     let alloc = rt.alloc();
     let number = Whole::new(-12).ok_or(RingFault::TooLarge)?;
     assert_eq!(rt; number.weight(), 0);
-    assert!(rt; has_parts(alloc, &number, &number, &Whole::one(alloc)?)?);
-    let table: [(&[i128], &[i128], &[i128]); 4] = [
+    let one = Whole::one(alloc)?;
+    assert!(rt; has_parts(alloc, &number, &number, &one)? && has_core(alloc, &number, &one)?);
+    let table: [(&[i128], &[i128], &[i128]); 5] = [
         (&[-2, 0, -2], &[-2], &[1, 0, 1]),
+        (&[1 << 126, 0, 1 << 126], &[1 << 126], &[1, 0, 1]),
         (&[0, 3, 6], &[0, 3, 6], &[1]),
         (&[2, 2, 2, 2], &[2, 2], &[1, 0, 1]),
         (&[-7], &[-7], &[1]),
@@ -107,10 +117,16 @@ fn parts_of_a_value(rt: HostRuntime) -> Result<(), RingFault> {
         let plain = polynomial(alloc, plain)?;
         assert!(rt; has_parts(alloc, &value, &plain, &polynomial(alloc, core)?)?);
     }
-    // 2^126 * (n - 1)^2 * (n^2 + n + 1), whose plain part would have the number -2^127
+    // 2^126 * (n - 1)^2 * (n^2 + n + 1), whose plain part would have the number -2^127; its core alone is in bounds
     let large = polynomial(alloc, &[1 << 126, -(1 << 126), 0, -(1 << 126), 1 << 126])?;
     let core = polynomial(alloc, &[1, 1, 1])?;
-    assert!(rt; has_parts(alloc, &large, &large, &core).is_err());
+    assert!(rt;
+        matches!(
+            has_parts(alloc, &large, &large, &core),
+            Err(RingFault::TooLarge)
+        )
+    );
+    assert!(rt; has_core(alloc, &large, &core)?);
     assert_eq!(rt; polynomial(alloc, &[0, 0, 5])?.weight(), 2);
     assert_eq!(rt; polynomial(alloc, &[])?.weight(), 0);
     Ok(())

@@ -1,12 +1,13 @@
 //! Rows of whole numbers, reduced by their greatest common divisor.
 
-ghost use Rattle.std.specs.Prelude.{◌≡◌, ◌≢◌, ◌<◌, ◌^◌, ◌≤ℤ◌, pos, ◌*ℤ◌, unsigned_abs, map, IfOk, IfErr, IsFalse, ⊤};
+ghost use Rattle.std.specs.Prelude.{◌≡◌, ◌≢◌, ◌<◌, ◌^◌, ◌≤ℤ◌, pos, ◌*ℤ◌, unsigned_abs, map, IfOk, IfErr, IsOk, IsFalse, ⊤};
 ghost use Rattle.std.specs.Int.{IsGcd};
 ghost use Rattle.ring_laws.specs.Meaning.{number};
 ghost use Rattle.ring_laws.specs.Wholes.{is_zero};
 ghost use Rattle.ring_laws.specs.declared.faults.RingFault.TheVariants.{Memory};
 ghost use Rattle.poly_divide.specs.Content.{DividesAll, IsContent};
-ghost use Rattle.reducing.specs.RowAnswer.{GivesRow, GivesParts};
+ghost use Rattle.kernel_laws.specs.Reduction.{IsCoreBy};
+ghost use Rattle.reducing.specs.RowAnswer.{GivesRow, GivesPart, GivesParts};
 ghost use Rattle.reducing.specs.WholeRows.{WholeReduced, WholeSplit, whole_reduction};
 ghost use Rattle.reducing.specs.WholeLaws.{whole_reduction_laws};
 
@@ -83,8 +84,17 @@ impl Reducing for Whole {
     fn split(&self, alloc: Global) -> Result<(Whole, Whole), RingFault>
         requires not_zero { IsFalse (is_zero self.now.value) }
         ensures splits { GivesParts (λ whole. number whole.value) (WholeSplit (number self.now.value)) ⊤ result }
+        ensures always { IsOk result }
     {
         let core = Whole::one(alloc)?;
         Ok((*self, core))
+    }
+
+    fn core(&self, alloc: Global) -> Result<Whole, RingFault>
+        requires not_zero { IsFalse (is_zero self.now.value) }
+        ensures core { GivesPart (λ whole. number whole.value) (IsCoreBy whole_reduction (number self.now.value)) ⊤ result }
+        ensures always { IsOk result }
+    {
+        Whole::one(alloc)
     }
 }

@@ -1,22 +1,20 @@
 -- What elimination answers meets the definition: where a vector of the kernel of the key rows ends at the least column of a multiplier that there is,
 -- that column is the first free one of every run.
-use Rattle.std.proofs.Common.{◌≡◌, ℕ, ◌+◌, ◌<◌, ◌≤◌, List, [], ◌∷◌, map, length, refl, subst, arith, inl, inr, ⊎_elim}
+use Rattle.std.proofs.Common.{◌≡◌, ℕ, suc, ◌+◌, ◌<◌, ◌≤◌, List, [], ◌∷◌, map, length, refl, subst, arith, inl, inr, ⊎_elim}
 use Rattle.std.proofs.lemmas.Bool.{cases_lt}
 use Rattle.std.specs.Prelude.{◌⊎◌, Option}
 use Rattle.ring_laws.specs.Meaning.{Meaning}
 use Rattle.ring_laws.specs.Algebra.{Ops, Passing, within}
 use Rattle.poly_laws.specs.Values.{level}
 use Rattle.normal_forms.specs.NormalForm.{Normal}
-use Rattle.kernel_laws.specs.Rows.{entry_at, InKernel}
-use Rattle.kernel_laws.specs.Kernels.{EndsAt}
 use Rattle.kernel_laws.specs.Pivots.{IsPivotColumn}
 use Rattle.kernel_laws.specs.Reduction.{bare}
 use Rattle.kernel_laws.specs.Elimination.{Run}
-use Rattle.kernel_laws.specs.Answers.{Vector, meant, FreeVector, VectorOf, IsFirstFree}
-use Rattle.kernel_laws.proofs.Belonging.{bare_at, kernel_down, ends_down}
+use Rattle.kernel_laws.specs.Answers.{meant, FreeVector, VectorOf, IsFirstFree}
+use Rattle.kernel_laws.proofs.Belonging.{kernel_down, ends_down}
 use Rattle.kernel_laws.proofs.ClearedRows.{domain as row_domain}
 use Rattle.kernel_laws.proofs.Echelon.{ends_at_free}
-use Rattle.kernel_laws.proofs.RunKernels.{pivot_rows_stand, pivots_same, isnt_pivot, none_at}
+use Rattle.kernel_laws.proofs.PartRuns.{pivot_rows_stand, pivots_back, isnt_pivot}
 use Rattle.reducing.specs.FactorLists.{laws, domain}
 use Rattle.reducing.specs.PolynomialRows.{polynomial_reduction}
 use Rattle.reducing.specs.SplitLaws.{polynomial_reduction_laws}
@@ -53,46 +51,36 @@ module _ (normal : Normal) (tops : List Meaning) (count : ℕ) (size : length to
   abbrev rows : List (List (Passing (level 1)))
   rows = rows_in normal tops first
 
-  run : Run (level 1) polynomial_reduction (map (bare (level 1)) rows) n steps.ran.open_rows steps.pivots steps.ran.divisor
-  run = subst (λ rs. Run (level 1) polynomial_reduction rs n steps.ran.open_rows steps.pivots steps.ran.divisor) (rows_are normal tops first) steps.ran.run
+  run : Run (level 1) polynomial_reduction (map (bare (level 1)) rows) (suc free) steps.ran.open_rows steps.pivots steps.ran.divisor
+  run = subst (λ rs. Run (level 1) polynomial_reduction rs (suc free) steps.ran.open_rows steps.pivots steps.ran.divisor) (rows_are normal tops first)
+      steps.ran.run
 
   moved : FreeVector (level 1) n first (map (bare (level 1)) rows) (bare (level 1) row) free
   moved = subst (λ rs. FreeVector (level 1) n first rs (bare (level 1) row) free) (rows_are normal tops first) found
 
-  abbrev entries : Vector (level 1)
-  entries = entry_at W row
+  up_to : suc free ≤ n
+  up_to = omega (arith, moved.ends.within)
 
-  entries_are : entry_at (level 1).ops (bare (level 1) row) ≡ meant (level 1) entries
-  entries_are = λ i k. bare_at (level 1) laws.closed 0 row k i
-
-  -- no vector ends at a column of a pivot
-  not_pivot : ¬ (IsPivotColumn free steps.pivots)
-  not_pivot h =
-      none_at (level 1) laws domain polynomial_reduction polynomial_reduction_laws unit_some n rows (rows_long normal tops first count size)
-      steps.ran.open_rows steps.pivots steps.ran.divisor run free h entries
-      (subst (λ (v : ℕ → Meaning). InKernel (level 1).ops n (map (bare (level 1)) rows) v) entries_are moved.kernel)
-      (subst (λ (v : ℕ → Meaning). EndsAt (level 1).ops n v free) entries_are moved.ends)
-
-  -- and one ends at each other column
+  -- a vector ends at each column that is none of a pivot
   pivot_before : (j : ℕ) → first ≤ j → j < free → IsPivotColumn j steps.pivots
   pivot_before j a b = ⊎_elim (λ h. h) (λ m. absurd (ends m)) (decided j steps.pivots)
     where
       ends : ¬ (IsPivotColumn j steps.pivots) → ⊥
       ends m =
           let long = rows_long normal tops first count size in
-          let same = pivots_same (level 1) laws domain polynomial_reduction polynomial_reduction_laws unit_some n rows long steps.ran.open_rows
-          steps.pivots steps.ran.divisor run in
           let e = ends_at_free W laws.ring (row_domain (level 1) laws domain n) n unit_some
-          (pivot_rows_stand (level 1) laws domain polynomial_reduction polynomial_reduction_laws unit_some n rows long steps.ran.open_rows
-          steps.pivots steps.ran.divisor run) j (omega arith) (omega (arith, b, moved.ends.within))
-          (isnt_pivot (level 1) laws domain polynomial_reduction polynomial_reduction_laws unit_some n rows long steps.ran.open_rows
-          steps.pivots steps.ran.divisor run j m) in
-          moved.least j a b e.vector (kernel_down (level 1) laws.closed n rows e.vector (meant (level 1) e.vector) (λ k. refl) (same.back e.vector e.kernel))
+          (pivot_rows_stand (level 1) laws domain polynomial_reduction polynomial_reduction_laws unit_some n rows long (suc free) up_to
+          steps.ran.open_rows steps.pivots steps.ran.divisor run) j (omega arith) (omega (arith, b, moved.ends.within))
+          (isnt_pivot (level 1) laws domain polynomial_reduction polynomial_reduction_laws unit_some n rows long (suc free) up_to
+          steps.ran.open_rows steps.pivots steps.ran.divisor run j m) in
+          let back = pivots_back (level 1) laws domain polynomial_reduction polynomial_reduction_laws unit_some n rows long (suc free) up_to
+          steps.ran.open_rows steps.pivots steps.ran.divisor run e.vector (λ k c d. e.ends.later k (omega (arith, b, c)) d) e.kernel in
+          moved.least j a b e.vector (kernel_down (level 1) laws.closed n rows e.vector (meant (level 1) e.vector) (λ k. refl) back)
           (ends_down (level 1) laws.closed n e.vector (meant (level 1) e.vector) j (λ k. refl) e.ends)
 
   pub first_free : IsFirstFree (coefficient_count bound + count) (coefficient_count bound) steps.pivots free
   first_free = record {
-    free = record { within = moved.ends.within; free = not_pivot };
+    free = record { within = moved.ends.within; free = steps.is_free };
     from = moved.from;
     before = pivot_before;
   }

@@ -1,5 +1,5 @@
 -- The vector of the steps lies in the kernel of the key rows, and ends at the least column of a multiplier at which one ends; so does its negative.
-use Rattle.std.proofs.Common.{◌≡◌, ℕ, zero, suc, ◌+◌, Bool, true, false, List, [], ◌∷◌, map, length, refl, ap, sym, ◌∙◌, subst, All, inl, inr}
+use Rattle.std.proofs.Common.{◌≡◌, ℕ, zero, suc, ◌+◌, Bool, true, false, List, [], ◌∷◌, map, length, refl, ap, sym, ◌∙◌, subst, All, arith, inl, inr}
 use Rattle.std.proofs.lemmas.List.Elements.{All-nil, All-cons}
 use Rattle.std.specs.Prelude.{◌⊎◌, cond, Option}
 use Rattle.ring_laws.specs.Meaning.{Meaning}
@@ -75,10 +75,11 @@ module _ (normal : Normal) (tops : List Meaning) (count : ℕ) (size : length to
       (map (bare (level 1)) (rows_in normal tops (coefficient_count bound))) (bare (level 1) row) free
   steps_free row h =
       first_vector (level 1) laws domain polynomial_reduction polynomial_reduction_laws unit_some (first + count) rows
-      (rows_long normal tops first count size) h.by_steps.ran.open_rows h.by_steps.pivots h.by_steps.ran.divisor
-      (subst (λ rs. Run (level 1) polynomial_reduction rs (first + count) h.by_steps.ran.open_rows h.by_steps.pivots h.by_steps.ran.divisor)
+      (rows_long normal tops first count size) (suc free) (omega (arith, h.first_free.free.within)) h.by_steps.ran.open_rows h.by_steps.pivots
+      h.by_steps.ran.divisor
+      (subst (λ rs. Run (level 1) polynomial_reduction rs (suc free) h.by_steps.ran.open_rows h.by_steps.pivots h.by_steps.ran.divisor)
       (rows_are normal tops first) h.by_steps.ran.run)
-      first free h.first_free (bare (level 1) row) h.by_steps.back
+      first free (omega arith) h.first_free (bare (level 1) row) h.by_steps.back
 
   -- the vector with its sign
   pub record Signed (vector : List Meaning) : Type 0 where

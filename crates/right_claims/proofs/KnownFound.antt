@@ -28,7 +28,7 @@ use Rattle.right_claims.specs.Orders.{IsLeftBy, IsFoundOrder}
 use Rattle.right_claims.proofs.KnownRows.{const, rows}
 use Rattle.right_claims.proofs.KnownReducedRows.{fifth_row}
 use Rattle.right_claims.proofs.KnownSettings.{binomial, once, pieces_at_one, normal as normal_at, form, setting_at_one}
-use Rattle.right_claims.proofs.KnownSteps.{pivots, vector_by_steps}
+use Rattle.right_claims.proofs.KnownSteps.{pivots, no_pivot, vector_by_steps}
 
 abbrev normal : Normal
 normal = normal_at (negsuc 0)
@@ -100,11 +100,6 @@ first_free = record {
   before = before;
 }
   where
-    no_pivot : ¬ (IsPivotColumn 2 pivots)
-    no_pivot (inl e) = omega (arith, e)
-    no_pivot (inr (inl e)) = omega (arith, e)
-    no_pivot (inr (inr e)) = absurd e
-
     before : (j : ℕ) → 1 ≤ j → j < 2 → IsPivotColumn j pivots
     before j a b = inr (inl (omega (arith, a, b)))
 

@@ -13,6 +13,7 @@ use Rattle.kernel_laws.specs.Rows.{entry_at}
 use Rattle.kernel_laws.specs.RowSteps.{divided}
 use Rattle.kernel_laws.specs.Elimination.{Run, begin, pass, climb, changes, IsCandidate, entry}
 use Rattle.kernel_laws.specs.BackSubstitution.{begin as first_vector, step, quotient}
+use Rattle.kernel_laws.specs.Pivots.{IsPivotColumn}
 use Rattle.kernel_laws.specs.Answers.{VectorOf}
 use Rattle.reducing.specs.TakenOut.{none}
 use Rattle.reducing.specs.PolynomialRows.{meant, IsLeast, IsNonzeroAt, degree_at, divides, PolynomialSplit, polynomial_reduction}
@@ -81,11 +82,18 @@ after_all = pass (climb [] [] (meant third_row) (const (pos 1)) after_first
     least_of zero b h = omega arith
     least_of (suc k) b h = absurd (omega (arith, b))
 
+-- the last column is none of a pivot
+pub no_pivot : ¬ (IsPivotColumn 2 pivots)
+no_pivot (inl e) = omega (arith, e)
+no_pivot (inr (inl e)) = omega (arith, e)
+no_pivot (inr (inr e)) = absurd e
+
 -- the vector by the steps
 abbrev pub vector_by_steps : VectorOf (level 1) polynomial_reduction 3 rows 2 (meant fifth_row)
 vector_by_steps = record {
   pivots = pivots;
   ran = record { open_rows = []; divisor = const (pos 1); run = after_all };
+  is_free = no_pivot;
   back = step
       (step first_vector
       (record {

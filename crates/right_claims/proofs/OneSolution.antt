@@ -1,6 +1,5 @@
 -- The first free column, the vector that the steps give at it, and its sign are each only one.
 use Rattle.std.proofs.Common.{◌≡◌, ℕ, zero, suc, ◌+◌, ◌<◌, List, [], ◌∷◌, map, refl, ap, sym, ◌∙◌, subst, arith, ⊎_elim, inl, inr}
-use Rattle.std.proofs.lemmas.Bool.{cases_lt}
 use Rattle.std.proofs.lemmas.Int.{ints}
 use Rattle.std.specs.Prelude.{◌⊎◌, pos, ◌<ℤ◌, Option}
 use Rattle.ring_laws.specs.Meaning.{Meaning}
@@ -8,9 +7,9 @@ use Rattle.ring_laws.specs.Algebra.{Ops, Passing, within}
 use Rattle.poly_laws.specs.Values.{level}
 use Rattle.kernel_laws.specs.Rows.{entry_at}
 use Rattle.kernel_laws.specs.Reduction.{bare}
-use Rattle.kernel_laws.specs.Answers.{Vector, VectorOf, IsFirstFree}
+use Rattle.kernel_laws.specs.Answers.{Vector, VectorOf}
 use Rattle.kernel_laws.proofs.Belonging.{bare_at}
-use Rattle.kernel_laws.proofs.OneRun.{one_ran}
+use Rattle.kernel_laws.proofs.FrontRuns.{one_first_free}
 use Rattle.kernel_laws.proofs.OneVector.{one_vector}
 use Rattle.reducing.specs.FactorLists.{laws, domain}
 use Rattle.reducing.specs.PolynomialRows.{lead_number, polynomial_reduction}
@@ -27,18 +26,6 @@ o = (level 1).ops
 -- the entries of a row, each of the ring
 abbrev entries : List (Passing (level 1)) → Vector (level 1)
 entries row = entry_at (within (level 1) laws.closed) row
-
--- of two first free columns neither stands before the other
-not_before : (columns first : ℕ) (pivots : List (ℕ × List Meaning)) (j k : ℕ) → IsFirstFree columns first pivots j
-    → IsFirstFree columns first pivots k → ¬ (j < k)
-not_before columns first pivots j k p q l = p.free.free (q.before j p.from l)
-
-one_free : (columns first : ℕ) (pivots : List (ℕ × List Meaning)) (j k : ℕ) → IsFirstFree columns first pivots j → IsFirstFree columns first pivots k
-    → j ≡ k
-one_free columns first pivots j k p q =
-    ⊎_elim (λ b. absurd (not_before columns first pivots k j q p b))
-    (λ b. ⊎_elim (λ c. absurd (not_before columns first pivots j k p q c)) (λ c. omega (arith, b, c)) (cases_lt j k))
-    (cases_lt k j)
 
 one_row : (columns : ℕ) (rows : List (List Meaning)) (free : ℕ) (v w : List Meaning) → VectorOf (level 1) polynomial_reduction columns rows free v
     → VectorOf (level 1) polynomial_reduction columns rows free w → v ≡ w
@@ -83,13 +70,9 @@ module _ (normal : Normal) (tops : List Meaning) (count : ℕ) (bound other : Op
   abbrev rows : List (List Meaning)
   rows = rows_of_key normal tops (coefficient_count bound)
 
-  pivots : moved.by_steps.pivots ≡ h.by_steps.by_steps.pivots
-  pivots = one_ran (level 1) laws domain polynomial_reduction polynomial_reduction_laws columns rows moved.by_steps.pivots
-      h.by_steps.by_steps.pivots moved.by_steps.ran h.by_steps.by_steps.ran
-
   frees : free ≡ later
-  frees = one_free columns (coefficient_count bound) h.by_steps.by_steps.pivots free later h.by_steps.first_free
-      (subst (λ ps. IsFirstFree columns (coefficient_count bound) ps later) pivots moved.first_free)
+  frees = one_first_free (level 1) laws domain polynomial_reduction polynomial_reduction_laws columns (coefficient_count bound) rows free later
+      h.by_steps.by_steps.pivots moved.by_steps.pivots h.by_steps.by_steps.ran moved.by_steps.ran h.by_steps.first_free moved.first_free
 
   same_rows : bare (level 1) h.row ≡ bare (level 1) k.row
   same_rows = one_row columns rows free (bare (level 1) h.row) (bare (level 1) k.row) h.by_steps.by_steps

@@ -7,7 +7,7 @@ use Rattle.kernel_laws.specs.Elimination.{Cleared, ClearingInBounds}
 use Rattle.fraction_free.specs.RowAnswers.{rows_meant}
 use Rattle.fraction_free.specs.RoundAnswers.{RoundInBounds}
 use Rattle.fraction_free.proofs.ManyRows.{removed_long}
-use Rattle.fraction_free.proofs.Columns.{fault_round, clear_not, split_not, rounds_made}
+use Rattle.fraction_free.proofs.Columns.{fault_round, clear_not, core_not, rounds_made}
 use Rattle.fraction_free.proofs.rounds.clear_column.Goals as goal
 
 pub returns-in_err-open : goal.returns-in_err-open
@@ -26,8 +26,8 @@ returns-in_err-open g c =
           c.in_err-open.ensures.clears));
     }
 
-pub returns-in_err-_plain : goal.returns-in_err-_plain
-returns-in_err-_plain g c =
+pub returns-in_err-core : goal.returns-in_err-core
+returns-in_err-core g c =
     let M = g.R.Ring.meaning in
     let b : c.args.place < length c.args.rows.items = omega (arith, c.requires.chosen.within, length-map c.args.rows.items (λ row. map M row.items)) in
     let wide = (removed_long c.args.columns c.args.place c.args.rows.items c.remove-pivot.new.self.items c.remove-pivot.result b
@@ -38,10 +38,10 @@ returns-in_err-_plain g c =
       clears = fault_round M g.R.Ring.algebra g.R.Reducing.reduction (M c.args.divisor.now) c.args.column (rows_meant M c.args.rows.items) c.args.place
           (RoundInBounds g.R.Domain.division_in_bounds g.R.Ring.algebra g.R.Reducing.reduction (M c.args.divisor.now) c.args.column
           (rows_meant M c.args.rows.items) c.args.place)
-          c.from_residual-in_err-_plain.result c.in_err-_plain.field-0.0 c.from_residual-in_err-_plain.ensures.1
-          (split_not g.R.Ring.algebra M g.R.Reducing.reduction (M c.args.divisor.now) c.args.column c.args.rows.items
-          c.remove-pivot.new.self.items c.args.place c.remove-pivot.result b c.remove-pivot.ensures.value c.remove-pivot.ensures.by_index.2 g.R.Domain.division_in_bounds c.in_err-_plain.field-0.0 (M c.index.result.now) en
-          c.in_err-_plain.ensures.splits);
+          c.from_residual-in_err-core.result c.in_err-core.field-0.0 c.from_residual-in_err-core.ensures.1
+          (core_not g.R.Ring.algebra M g.R.Reducing.reduction (M c.args.divisor.now) c.args.column c.args.rows.items
+          c.remove-pivot.new.self.items c.args.place c.remove-pivot.result b c.remove-pivot.ensures.value c.remove-pivot.ensures.by_index.2 g.R.Domain.division_in_bounds c.in_err-core.field-0.0 (M c.index.result.now) en
+          c.in_err-core.ensures.core);
     }
 
 pub returns : goal.returns
@@ -55,8 +55,8 @@ returns g c =
     record {
       clears = rounds_made g.R.Ring.algebra M g.R.Reducing.reduction (M c.args.divisor.now) c.args.column c.args.rows.items
           c.remove-pivot.new.self.items c.args.place c.remove-pivot.result b c.remove-pivot.ensures.value c.remove-pivot.ensures.by_index.2 (rows_meant M c.in_ok-open.open.items)
-          (M c.in_ok-_plain._plain) (M c.in_ok-_plain.core)
+          c.in_ok-core.ensures.core.plain (M c.in_ok-core.core)
           (subst (λ v. AllZip (Cleared g.R.Ring.algebra g.R.Reducing.reduction (M c.args.divisor.now) c.args.column (map M v))
           (rows_meant M c.remove-pivot.new.self.items) (rows_meant M c.in_ok-open.open.items)) c.deref.ensures.value c.in_ok-open.ensures.clears)
-          (subst (λ v. g.R.Reducing.reduction.Split v (M c.in_ok-_plain._plain) (M c.in_ok-_plain.core)) en c.in_ok-_plain.ensures.splits);
+          (subst (λ v. g.R.Reducing.reduction.Split v c.in_ok-core.ensures.core.plain (M c.in_ok-core.core)) en c.in_ok-core.ensures.core.split);
     }
