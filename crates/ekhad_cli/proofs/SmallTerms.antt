@@ -13,7 +13,7 @@ use Rattle.poly_laws.specs.Lists.{coefficient_at, is_trimmed}
 use Rattle.poly_laws.specs.Values.{horner, value_at, level}
 use Rattle.poly_laws.proofs.Equal.{same_values}
 use Rattle.poly_laws.proofs.Keeps.{value_at_keeps}
-use Rattle.hypergeometric.specs.Point.{Point, point, values, values_in_n}
+use Rattle.hypergeometric.specs.Point.{Point, point, values_in_n}
 use Rattle.hypergeometric.specs.ProperTerm.{ProperTerm, poly_value}
 use Rattle.hypergeometric.specs.Fraction.{of_whole}
 use Rattle.hypergeometric.specs.TermFacts.{IsPolynomial, IsProper}
@@ -90,12 +90,14 @@ nought_horner k v z e h = rw e (rw h (zero_product k))
 same_horner : (p : Point) (xs : List Meaning) (cs : List ℤ) → HasCoefficients xs cs → horner (value_at (values_in_n p)) p.k xs ≡ value_of cs p.k
 same_horner p [] [] h = refl
 same_horner p [] (c ∷ cs) h =
-    sym (nought_horner p.k c (value_of cs p.k) (sym ((value_at_keeps (values_in_n p)).whole c) ∙ ap (value_at (values_in_n p)) (sym (h 0)) ∙ (value_at_keeps (values_in_n p)).nought)
+    sym (nought_horner p.k c (value_of cs p.k)
+    (sym ((value_at_keeps (values_in_n p)).whole c) ∙ ap (value_at (values_in_n p)) (sym (h 0)) ∙ (value_at_keeps (values_in_n p)).nought)
     (sym (same_horner p [] cs (λ i. h (suc i)))))
 same_horner p (x ∷ xs) [] h =
-    nought_horner p.k (value_at (values_in_n p) x) (horner (value_at (values_in_n p)) p.k xs) (ap (value_at (values_in_n p)) (h 0) ∙ (value_at_keeps (values_in_n p)).whole (pos 0))
+    nought_horner p.k (value_at (values_in_n p) x) (horner (value_at (values_in_n p)) p.k xs)
+    (ap (value_at (values_in_n p)) (h 0) ∙ (value_at_keeps (values_in_n p)).whole (pos 0))
     (same_horner p xs [] (λ i. h (suc i)))
-same_horner p.n p.k (x ∷ xs) (c ∷ cs) h =
+same_horner p (x ∷ xs) (c ∷ cs) h =
     ap (λ v. v +ℤ p.k *ℤ horner (value_at (values_in_n p)) p.k xs) (ap (value_at (values_in_n p)) (h 0) ∙ (value_at_keeps (values_in_n p)).whole c)
     ∙ ap (λ z. c +ℤ p.k *ℤ z) (same_horner p xs cs (λ i. h (suc i)))
 
@@ -106,14 +108,14 @@ polynomial_in_k poly cs h g is =
     ap (λ (z : (m : Meaning) × IsTrue ((level 2).passes m)). z.0)
     (same_values 2 (poly, h.passes) (in_k (polynomial_of cs), (in_k_polynomial (polynomial_of cs) g).passes) at_point)
   where
-    at_two : (p.k p.n : ℤ) → poly_value poly p ≡ poly_value (in_k (polynomial_of cs)) p
-    at_two p.k p.n = same_horner p (items poly) cs is ∙ sym (polynomial_value_of cs p.k) ∙ sym (in_k_value (polynomial_of cs) p)
+    at_two : (p : Point) → poly_value poly p ≡ poly_value (in_k (polynomial_of cs)) p
+    at_two p = same_horner p (items poly) cs is ∙ sym (polynomial_value_of cs p.k) ∙ sym (in_k_value (polynomial_of cs) p)
 
-    at_point : (point : List ℤ) → length point ≡ 2 → value_at point poly ≡ value_at point (in_k (polynomial_of cs))
+    at_point : (vs : List ℤ) → length vs ≡ 2 → value_at vs poly ≡ value_at vs (in_k (polynomial_of cs))
     at_point [] e = cc
-    at_point (p.k ∷ []) e = cc
-    at_point (values p) e = at_two p.k p.n
-    at_point (p.k ∷ p.n ∷ m ∷ more) e = cc
+    at_point (k ∷ []) e = cc
+    at_point (k ∷ n ∷ []) e = at_two (point n k)
+    at_point (k ∷ n ∷ m ∷ more) e = cc
 
 -- the numbers so far are the first coefficients, and the others are 0
 pub record AreNumbersUpTo (done : ℕ) (xs : List Meaning) (numbers : List ℤ) : Type 0 where
