@@ -1,8 +1,8 @@
 -- For each relation that says that an operation is in bounds, a known value at which it holds, and one at which it doesn't.
-use Rattle.std.specs.Prelude.{◌≡◌, ℕ, zero, suc, ◌<◌, ◌^◌, List, [], ◌∷◌, ◌++◌, length, pos}
+use Rattle.std.specs.Prelude.{zero, suc, ◌<◌, ◌^◌, [], ◌∷◌, length, pos}
 use Rattle.std.proofs.Common.{arith, ap, lit<}
 use Rattle.std.proofs.lemmas.List.{length-append}
-use Rattle.ring_laws.specs.Meaning.{Meaning, number, listed}
+use Rattle.ring_laws.specs.Meaning.{number, listed}
 use Rattle.ring_laws.specs.Algebra.{SumInBounds, ProductInBounds}
 use Rattle.ring_laws.specs.Wholes.{whole_algebra}
 use Rattle.poly_laws.specs.Bounds.{ListSumInBounds, ListProductInBounds, ScalingInBounds}
