@@ -1,5 +1,5 @@
 -- A product with nought, and a product with its factors exchanged.
-use Rattle.std.proofs.Common.{◌≡◌, List, [], ◌∷◌, length, map, IsTrue, ap, sym, ◌∙◌, subst, arith, refl, Result, Ok, Err, Vec, Bool, true}
+use Rattle.std.proofs.Common.{◌≡◌, List, [], ◌∷◌, length, map, ap, sym, ◌∙◌, subst, arith, refl, Result, Ok, Err, Vec, Bool, true}
 use Rattle.std.specs.Bool.{◌==◌}
 use Rattle.std.specs.Vec.{vec_len}
 use Rattle.ring_laws.specs.Algebra.{Algebra, Ops, Passing, Laws, within, same_passing, ProductInBounds}

@@ -1,5 +1,5 @@
 -- What the shift of each coefficient answers.
-use Rattle.std.proofs.Common.{◌≡◌, ℕ, ◌<◌, ◌≤◌, IsTrue, List, [], ◌∷◌, ◌++◌, ◌+◌, take, map, length, get_or, sym, ap, ◌∙◌, subst, arith, ⊎_elim, Result, Ok, Err, Vec, IsErrAnd, ℤ}
+use Rattle.std.proofs.Common.{◌≡◌, ℕ, ◌<◌, ◌≤◌, List, [], ◌∷◌, ◌++◌, ◌+◌, take, map, length, get_or, sym, ap, ◌∙◌, subst, arith, ⊎_elim, Result, Ok, Err, Vec, IsErrAnd, ℤ}
 use Rattle.std.proofs.lemmas.Bool.{cases_lt}
 use Rattle.std.proofs.lemmas.List.{length-map, map_more, map_push}
 use Rattle.ring_laws.specs.Algebra.{Algebra, Laws}

@@ -1,6 +1,6 @@
 -- What the calls on whole multiples answer.
-use Rattle.std.proofs.Common.{◌≡◌, ℕ, ◌+◌, ◌-◌, ◌<◌, Bool, false, IsTrue, IsFalse, ◌↔◌, List, [], ◌∷◌, map, length, get_or, take, refl, sym, ap, ◌∙◌, subst, arith, Option, Some, None, MatchOption, ℤ, pos}
-use Rattle.std.proofs.lemmas.List.{length-map, get_or-map}
+use Rattle.std.proofs.Common.{◌≡◌, ℕ, ◌<◌, Bool, false, IsTrue, IsFalse, ◌↔◌, List, [], ◌∷◌, map, length, get_or, refl, sym, ap, ◌∙◌, subst, arith, ℤ, pos}
+use Rattle.std.proofs.lemmas.List.{length-map}
 use Rattle.ring_laws.specs.Algebra.{Ops, Algebra, Passing, within, Laws}
 use Rattle.ring_laws.specs.Division.{DomainLaws, IsTimes}
 use Rattle.ring_laws.specs.Meaning.{Meaning, number, listed, items, parted-joined}
@@ -9,7 +9,7 @@ use Rattle.poly_laws.specs.Lists.{coefficient_at, is_trimmed}
 use Rattle.poly_laws.specs.PolyAlgebra.{poly_algebra}
 use Rattle.poly_generic.proofs.ListLemmas.{at_item}
 use Rattle.poly_laws.proofs.Belonging.{value_passes}
-use Rattle.poly_laws.proofs.Coefficients.{meanings_of, coefficients, meanings-coefficients}
+use Rattle.poly_laws.proofs.Coefficients.{coefficients, meanings-coefficients}
 use Rattle.poly_laws.proofs.ListLaws.{product_nought}
 use Rattle.poly_laws.proofs.WholeMultiples.{one_number, times_where, times_items, times_length, no_times}
 

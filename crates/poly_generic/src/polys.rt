@@ -15,8 +15,8 @@ ghost use Rattle.poly_laws.proofs.Belonging.{value_passes, value_fits};
 
 use crate::division::{all_zero, divide_lists};
 use crate::evaluation::{shift_of_list, value_of_list};
-use crate::multiples::are_times;
 use crate::lists::{copies, magnitudes, negatives, same_lists, sums, trim};
+use crate::multiples::are_times;
 use ring_laws::{Domain, Ring, RingFault, Whole};
 use std::alloc::Global;
 

@@ -167,7 +167,10 @@ fn is_too_large<T>(answer: &Result<T, RingFault>) -> bool {
 fn the_second_variable_is_shifted(rt: HostRuntime) -> Result<(), RingFault> {
     let alloc = rt.alloc();
     let square: Znk = numbers(alloc, &[0, 0, 1])?;
-    let poly = square.add(alloc, &line(alloc, numbers(alloc, &[0, 1])?, number(alloc, 0)?)?)?;
+    let poly = square.add(
+        alloc,
+        &line(alloc, numbers(alloc, &[0, 1])?, number(alloc, 0)?)?,
+    )?;
     let shifted = poly.add(alloc, &number(alloc, 3)?)?;
     assert!(rt; poly.shift_inner_by(alloc, 3)?.same(&shifted));
     assert!(rt; shifted.shift_inner_by(alloc, -3)?.same(&poly));
@@ -182,17 +185,38 @@ fn the_second_variable_is_shifted(rt: HostRuntime) -> Result<(), RingFault> {
 #[test]
 fn whole_quotients(rt: HostRuntime) -> Result<(), RingFault> {
     let alloc = rt.alloc();
-    let by: Znk = line(alloc, numbers(alloc, &[-4, 2])?, numbers(alloc, &[0, 0, 2])?)?;
+    let by: Znk = line(
+        alloc,
+        numbers(alloc, &[-4, 2])?,
+        numbers(alloc, &[0, 0, 2])?,
+    )?;
     let found = by.mul(alloc, &number(alloc, -3)?)?.whole_quotient(&by);
     assert_eq!(rt; found.map(|found| found.value()), Some(-3));
     let line: Zn = numbers(alloc, &[-4, 2])?;
-    assert!(rt; numbers::<Whole>(alloc, &[12, -5])?.whole_quotient(&line).is_none());
-    assert!(rt; numbers::<Whole>(alloc, &[12])?.whole_quotient(&line).is_none());
-    assert!(rt; numbers::<Whole>(alloc, &[0, -4, 2])?.whole_quotient(&line).is_none());
+    assert!(rt;
+        numbers::<Whole>(alloc, &[12, -5])?
+            .whole_quotient(&line)
+            .is_none()
+    );
+    assert!(rt;
+        numbers::<Whole>(alloc, &[12])?
+            .whole_quotient(&line)
+            .is_none()
+    );
+    assert!(rt;
+        numbers::<Whole>(alloc, &[0, -4, 2])?
+            .whole_quotient(&line)
+            .is_none()
+    );
     assert!(rt; line.whole_quotient(&Zn::zero(alloc)?).is_none());
     assert!(rt; Zn::zero(alloc)?.whole_quotient(&line).is_some());
     let greatest: Zn = number(alloc, i128::MAX)?;
-    assert_eq!(rt; greatest.whole_quotient(&greatest).map(|found| found.value()), Some(1));
+    assert_eq!(rt;
+        greatest
+            .whole_quotient(&greatest)
+            .map(|found| found.value()),
+        Some(1)
+    );
     Ok(())
 }
 

@@ -16,6 +16,7 @@ pub mod Determined
 pub mod Equal
 pub mod Uses
 mod KnownValues
+mod KnownBounds
 pub mod OneQuotient
 pub mod PolyDomain
 pub mod DivisionRuns

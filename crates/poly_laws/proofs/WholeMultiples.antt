@@ -1,17 +1,17 @@
 -- A whole number times a polynomial, by the coefficients.
 use Rattle.std.specs.Prelude.{◌≡◌, ℕ, zero, suc, ◌≤◌, ℤ, pos, ◌+ℤ◌, neg_ℤ, List, [], ◌∷◌, map, length, refl}
-use Rattle.std.proofs.Common.{ap, sym, ◌∙◌, arith, ⊎_elim, subst}
+use Rattle.std.proofs.Common.{ap, sym, ◌∙◌, arith, ⊎_elim}
 use Rattle.std.proofs.lemmas.Int.{ints}
 use Rattle.std.proofs.lemmas.List.{length-map}
-use Rattle.ring_laws.specs.Meaning.{Meaning, items}
+use Rattle.ring_laws.specs.Meaning.{items}
 use Rattle.ring_laws.specs.Algebra.{Ops, Algebra, Passing, within, Laws, same_passing}
 use Rattle.ring_laws.specs.Division.{DomainLaws, IsTimes}
 use Rattle.poly_laws.specs.Lists.{coefficient_at, list_product, SameCoefficients}
 use Rattle.poly_laws.specs.PolyAlgebra.{poly_algebra}
-use Rattle.poly_laws.proofs.Coefficients.{meanings_of, meanings-scale, meanings_same, coefficients, coefficients_trimmed, meanings-coefficients, poly_closed}
+use Rattle.poly_laws.proofs.Coefficients.{meanings-scale, meanings_same, coefficients, coefficients_trimmed, meanings-coefficients, poly_closed}
 use Rattle.poly_laws.proofs.ListLaws.{sum_nought, product_nought, nought_product, at_scale, times_zero, times_suc}
 use Rattle.poly_laws.proofs.PolyDomain.{no_divisors_within}
-use Rattle.poly_laws.proofs.PolyLaws.{coefficient, equal_coefficients, coefficient-whole, product_same, poly_ring}
+use Rattle.poly_laws.proofs.PolyLaws.{equal_coefficients, coefficient-whole, product_same, poly_ring}
 use Rattle.poly_laws.proofs.Trimming.{beyond, length_within}
 
 -- lists of one length with the same coefficients are the same
@@ -77,7 +77,7 @@ module _ (a : Algebra) (l : Laws a) where
       meanings-coefficients a l.closed y,
       meanings-coefficients a l.closed x,
       same_lists base (map (base.product (base.whole w)) (parts y)) (parts x) (omega (arith, n, length-map (parts y) (base.product (base.whole w))))
-      (λ k. at_scale base l.ring (base.whole w) (parts y) k ∙ at_each k),
+          (λ k. at_scale base l.ring (base.whole w) (parts y) k ∙ at_each k),
     )
 
     no_longer : length (parts x) ≤ length (parts y)

@@ -1,4 +1,4 @@
-use Rattle.std.proofs.Common.{◌∙◌, map, length, ap, arith, below_more}
+use Rattle.std.proofs.Common.{◌∙◌, map, ap, arith, below_more}
 use Rattle.std.proofs.lemmas.List.{length-map, take_all}
 use Rattle.ring_laws.specs.Meaning.{Meaning, listed}
 use Rattle.poly_laws.specs.Shift.{poly_shift}
@@ -29,7 +29,7 @@ pub returns : goal.returns
 returns g c =
     let mean : Poly g.row.R.Denot g.R.Ring → Meaning = λ v. listed (map g.R.Ring.meaning v.list.items) in (
       in_bounds_all g.R.Ring.algebra g.met.R.Ring.laws (g.R.Ring.algebra.ops.whole c.args.by.value) (map mean c.args.list.now) c.loop-item.item-index
-      (omega (arith, length-map c.args.list.now mean, c.loop-item-test.false)) c.loop-item.invariant.in_bounds,
+          (omega (arith, length-map c.args.list.now mean, c.loop-item-test.false)) c.loop-item.invariant.in_bounds,
       c.loop-item.invariant.made
           ∙ ap (λ t. map (poly_shift g.R.Ring.algebra.ops c.args.by.value) (map mean t)) (take_all c.loop-item.item-index c.args.list.now c.loop-item-test.false),
     )

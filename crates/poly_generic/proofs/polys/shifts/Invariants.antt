@@ -1,5 +1,5 @@
 use Rattle.std.proofs.Common.{◌≡◌, ℕ, ◌<◌, map, take}
-use Rattle.ring_laws.specs.Meaning.{Meaning, listed}
+use Rattle.ring_laws.specs.Meaning.{listed}
 use Rattle.poly_laws.specs.Shift.{poly_shift}
 use Rattle.poly_generic.specs.declared.polys.Poly.{Poly}
 use Rattle.poly_generic.proofs.InnerShiftAnswers.{InBoundsAt}

@@ -1,8 +1,8 @@
-use Rattle.std.proofs.Common.{◌≡◌, map, length, ap, arith, ◌∙◌, subst}
+use Rattle.std.proofs.Common.{◌≡◌, map, ap, arith, ◌∙◌, subst}
 use Rattle.std.proofs.lemmas.Int.{ints, to_z-of_z}
 use Rattle.std.proofs.lemmas.List.{length-map}
 use Rattle.ring_laws.specs.Answer.{OnFault}
-use Rattle.ring_laws.specs.Meaning.{Meaning, listed, parted-joined}
+use Rattle.ring_laws.specs.Meaning.{Meaning, listed}
 use Rattle.poly_laws.specs.Shift.{poly_shift, InnerShiftInBounds}
 use Rattle.poly_generic.specs.declared.polys.Poly.{Poly}
 use Rattle.poly_generic.proofs.InnerShiftAnswers.{inner_given, inner_fault}

@@ -1,4 +1,4 @@
-use Rattle.std.proofs.Common.{◌≡◌, map, ap, ◌∙◌, subst, arith}
+use Rattle.std.proofs.Common.{◌≡◌, map, ap, ◌∙◌, subst}
 use Rattle.ring_laws.specs.Answer.{OnFault}
 use Rattle.poly_laws.specs.Shift.{list_shift, ListShiftInBounds}
 use Rattle.poly_generic.proofs.PolyAnswers.{fault_poly}

@@ -1,4 +1,4 @@
-use Rattle.std.proofs.Common.{◌≡◌, ◌<◌, ◌-◌, ◌∙◌, map, length, get_or, ap, sym, subst, arith}
+use Rattle.std.proofs.Common.{◌≡◌, ◌<◌, ◌-◌, ◌∙◌, map, length, get_or, ap, sym, arith}
 use Rattle.ring_laws.specs.Meaning.{Meaning}
 use Rattle.poly_generic.proofs.DomainAnswers.{lead_not}
 use Rattle.poly_generic.proofs.MultipleAnswers.{none_apart, none_lead, none_rest, all_times, none_times}
@@ -70,6 +70,9 @@ returns-else-are_times g c =
           (c.index.ensures ∙ ap (λ k. get_or xs (k - 1) c.index.result.now) e) y
           (lead_not g.D.Ring.algebra.ops M ys c.index-2.result.now (omega (arith, n, p)) y c.args.by.now.ended) c.in-Some.found.value
           c.in-Some.ensures.quotient
-          (λ h. cc (c.if-are_times.false, c.are_times.ensures.1
-          (two (λ s t. map times (map M t) ≡ map M s) _ _ _ _ (sym c.deref.ensures.value) (sym c.deref-2.ensures.value) h)));
+          (λ h. cc (
+            c.if-are_times.false,
+            c.are_times.ensures.1
+                (two (λ s t. map times (map M t) ≡ map M s) _ _ _ _ (sym c.deref.ensures.value) (sym c.deref-2.ensures.value) h),
+          ));
     }
