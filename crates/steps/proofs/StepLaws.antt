@@ -44,7 +44,8 @@ pub record Within (name : LimitName) (count : ℕ) {A : Type 0} (x y : A) : Type
 pub limit_gave : {R A : Type 0} (name : LimitName) (count : ℕ) (x y : A) → limited {R = R} name count x ≡ Ok y → Within name count x y
 limit_gave {R} {A} name count x y e = by (nat_le count (greatest_count name)) refl e
   where
-    by : (b : Bool) → nat_le count (greatest_count name) ≡ b → ◌≡◌ {A = Result A (Refusal R)} (if b then Ok x else Err (limit name (capped count))) (Ok y)
+    by : (b : Bool) → nat_le count (greatest_count name) ≡ b → ◌≡◌ {A = Result A (Refusal R)} (if b then Ok x else Err (limit name (capped count)))
+        (Ok y)
         → Within name count x y
     by true h e = record { few = leb-true count (greatest_count name) h; same = same_Ok x y e }
     by false h e = absurd (not_refused {R = R} (limit name (capped count)) y e)

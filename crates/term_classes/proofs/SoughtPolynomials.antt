@@ -17,7 +17,8 @@ abbrev where_there : {A B : Type 0} → (A → B) → Option A → Option B
 where_there f None = None
 where_there f (Some x) = Some (f x)
 
-made_gave : {A B : Type 0} (at : ℕ) (c : A → Counterpart) (f : A → B) (x : Option A) (y : Option B) → (made_of {P = ℕ} {R = Improper} at c f x).outcome
+made_gave : {A B : Type 0} (at : ℕ) (c : A → Counterpart) (f : A → B) (x : Option A) (y : Option B)
+    → (made_of {P = ℕ} {R = Improper} at c f x).outcome
     ≡ Ok y → where_there f x ≡ y
 made_gave at c f None y e = same_Ok None y e
 made_gave at c f (Some x) y e = same_Ok (Some (f x)) y e

@@ -31,7 +31,8 @@ pow_refused a base e e' w f x is same h =
 
 pub pow_answer : (a base e e' : Ast) (w : ℤ) (f : ProperTerm) (kind : ExponentKind) (result : Result Gathered TermFault) → a.node ≡ Pow base e
     → e' ≡ e → (exponent_sought (tree_of e') w).outcome ≡ Ok kind
-    → Answers term_cause gathered_of (power_left a.at (tree_of base) (tree_of e) w f kind) result → Answers term_cause gathered_of (walk (tree_of a) w f) result
+    → Answers term_cause gathered_of (power_left a.at (tree_of base) (tree_of e) w f kind) result
+        → Answers term_cause gathered_of (walk (tree_of a) w f) result
 pow_answer a base e e' w f kind result is same told known =
     at_node a (Pow base e) (d.power_of (tree_of base) (tree_of e)) w f result is (node_of-pow base e)
     (subst (λ s. Answers term_cause gathered_of s result) (power_row a.at (tree_of base) (tree_of e) w f)
@@ -48,13 +49,15 @@ same_trees at b b' e e' form w f result p q known =
 
 -- a factorial
 pub factorial_answer : (a t t' : Ast) (w : ℤ) (f : ProperTerm) (result : Result Gathered TermFault) → a.node ≡ Factorial t → t' ≡ t
-    → Answers term_cause gathered_of (walk (d.tree a.at (d.factorial_of (tree_of t'))) w f) result → Answers term_cause gathered_of (walk (tree_of a) w f) result
+    → Answers term_cause gathered_of (walk (d.tree a.at (d.factorial_of (tree_of t'))) w f) result
+        → Answers term_cause gathered_of (walk (tree_of a) w f) result
 factorial_answer a t t' w f result e same known = at_node a (Factorial t) (d.factorial_of (tree_of t)) w f result e (node_of-factorial t)
     (subst (λ u. Answers term_cause gathered_of (walk (d.tree a.at (d.factorial_of (tree_of u))) w f) result) same known)
 
 -- a binomial coefficient
 pub binomial_answer : (a l l' m m' : Ast) (w : ℤ) (f : ProperTerm) (result : Result Gathered TermFault) → a.node ≡ Binomial l m → l' ≡ l → m' ≡ m
-    → Answers term_cause gathered_of (times_binomial a.at (tree_of l') (tree_of m') w f) result → Answers term_cause gathered_of (walk (tree_of a) w f) result
+    → Answers term_cause gathered_of (times_binomial a.at (tree_of l') (tree_of m') w f) result
+        → Answers term_cause gathered_of (walk (tree_of a) w f) result
 binomial_answer a l l' m m' w f result e p q known =
     at_node a (Binomial l m) (d.binomial_of (tree_of l) (tree_of m)) w f result e (node_of-binomial l m)
     (subst (λ x. Answers term_cause gathered_of (times_binomial a.at (tree_of x) (tree_of m) w f) result) p

@@ -26,7 +26,8 @@ module _ (t : Tree) (nothing : ProperTerm) (unit : (gives {P = ℕ} {R = Imprope
   pub walked_from_unit : (f : ProperTerm) → (walk t (pos 1) nothing).outcome ≡ Ok f → (walk t (pos 1) unit_term).outcome ≡ Ok f
   walked_from_unit f e = subst (λ s. (walk t (pos 1) s).outcome ≡ Ok f) (sym (same_Ok unit_term nothing unit)) e
 
-  pub fault_from_unit : (fault : TermFault) → HasCause (walk t (pos 1) nothing) (term_cause fault) → HasCause (walk t (pos 1) unit_term) (term_cause fault)
+  pub fault_from_unit : (fault : TermFault) → HasCause (walk t (pos 1) nothing) (term_cause fault)
+      → HasCause (walk t (pos 1) unit_term) (term_cause fault)
   fault_from_unit fault h = subst (λ s. HasCause (walk t (pos 1) s) (term_cause fault)) (sym (same_Ok unit_term nothing unit)) h
 
 -- one tree
@@ -37,7 +38,8 @@ module _ (t : Tree) where
   pub class_fault : (fault : TermFault) → HasCause walked (term_cause fault) → HasCause (class_of t) (term_cause fault)
   class_fault fault h = first_cause walked (λ f. gives (cancelled f)) (term_cause fault) h
 
-  pub class_answer : (f : ProperTerm) (result : Result Proper TermFault) → walked.outcome ≡ Ok f → Answers term_cause term_of (gives (cancelled f)) result
+  pub class_answer : (f : ProperTerm) (result : Result Proper TermFault) → walked.outcome ≡ Ok f
+      → Answers term_cause term_of (gives (cancelled f)) result
       → Answers term_cause term_of (class_of t) result
   class_answer f result e h = later_answer term_cause term_of walked (λ f. gives (cancelled f)) f result e h
 
@@ -67,7 +69,8 @@ module _ (a b : Tree) where
     pub bottom_fault : (fault : TermFault) → HasCause below (term_cause fault) → HasCause (class_of_quotient a b) (term_cause fault)
     bottom_fault fault h = later_cause above divided f (term_cause fault) e (first_cause below (λ g. gives (cancelled g)) (term_cause fault) h)
 
-    pub quotient_answer : (g : ProperTerm) (result : Result Proper TermFault) → below.outcome ≡ Ok g → Answers term_cause term_of (gives (cancelled g)) result
+    pub quotient_answer : (g : ProperTerm) (result : Result Proper TermFault) → below.outcome ≡ Ok g
+        → Answers term_cause term_of (gives (cancelled g)) result
         → Answers term_cause term_of (class_of_quotient a b) result
     quotient_answer g result k h =
         later_answer term_cause term_of above divided f result e (later_answer term_cause term_of below (λ g. gives (cancelled g)) g result k h)

@@ -24,7 +24,8 @@ module _ (ts : List Tree) (few : length ts - 1 ≤ 6) where
   abbrev from_coefficients : List Meaning → TermSteps (List Meaning)
   from_coefficients ps = first_not_zero ts ps then (λ _. last_not_zero ts ps)
 
-  pub coefficients_fault : (fault : TermFault) → HasCause (coefficients_sought ts) (term_cause fault) → HasCause (recurrence_sought ts) (term_cause fault)
+  pub coefficients_fault : (fault : TermFault) → HasCause (coefficients_sought ts) (term_cause fault)
+      → HasCause (recurrence_sought ts) (term_cause fault)
   coefficients_fault fault h =
       later_cause (within_limit Order (length ts - 1) ts) (λ _. coefficients_sought ts then from_coefficients) ts (term_cause fault)
       (limit_kept Order (length ts - 1) ts few) (first_cause (coefficients_sought ts) from_coefficients (term_cause fault) h)
@@ -58,7 +59,8 @@ first_kept_at (s ∷ ts) (q ∷ ps) t p h k e g o =
 
 -- the last tree and its polynomial
 pub last_cause_at : (ts : List Tree) (ps : List Meaning) (i : ℕ) (t : Tree) (p : Meaning) → length ts ≡ suc i → length ps ≡ suc i
-    → t ≡ get_or ts i t → p ≡ get_or ps i p → (fault : TermFault) → HasCause (not_zero_at t p) (term_cause fault) → HasCause (last_not_zero ts ps) (term_cause fault)
+    → t ≡ get_or ts i t → p ≡ get_or ps i p → (fault : TermFault) → HasCause (not_zero_at t p) (term_cause fault)
+        → HasCause (last_not_zero ts ps) (term_cause fault)
 last_cause_at [] ps i t p h k e g fault c = absurd (omega (arith, h))
 last_cause_at (s ∷ ts) [] i t p h k e g fault c = absurd (omega (arith, k))
 last_cause_at (s ∷ []) (q ∷ []) zero t p h k e g fault c =

@@ -80,6 +80,7 @@ plain_row at (d.part true t (d.part turned u parts)) w f h = refl
 plain_row at (d.part true t d.no_parts) w f h = cc
 
 pub plain_sum : (a : Ast) (ps : List Part) (w : ℤ) (f : ProperTerm) (result : Result Gathered TermFault) → a.node ≡ Sum ps
-    → is_one_turned (parts_of ps) ≡ false → Answers term_cause gathered_of (sought (tree_of a) w f) result → Answers term_cause gathered_of (walk (tree_of a) w f) result
+    → is_one_turned (parts_of ps) ≡ false → Answers term_cause gathered_of (sought (tree_of a) w f) result
+        → Answers term_cause gathered_of (walk (tree_of a) w f) result
 plain_sum a ps w f result e plain known =
     leaf_answer a (Sum ps) (d.sum_of (parts_of ps)) w f result e (node_of-sum ps) (plain_row a.at (parts_of ps) w f plain) known

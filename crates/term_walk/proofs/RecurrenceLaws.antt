@@ -83,7 +83,8 @@ module _ (trees : List Ast) (i : ℕ) (t : Ast) (below : i < length trees) (is :
         (later_outcome (coefficients_sought rest) (λ ps. gives (polynomial_in_n p ∷ ps)) more (Ok (polynomial_in_n p ∷ more)) h refl))
         ∙ ap Ok (moved found p more);
     faults = λ fault h. leads.faults fault (subst (λ s. HasCause s (term_cause fault)) (sym here)
-        (later_cause (coefficient_sought (tree_of t)) (λ p. coefficients_sought rest then (λ ps. gives (p ∷ ps))) (polynomial_in_n p) (term_cause fault) e
+        (later_cause (coefficient_sought (tree_of t)) (λ p. coefficients_sought rest then (λ ps. gives (p ∷ ps))) (polynomial_in_n p)
+            (term_cause fault) e
         (first_cause (coefficients_sought rest) (λ ps. gives (polynomial_in_n p ∷ ps)) (term_cause fault) h)));
   }
 

@@ -72,9 +72,11 @@ pub constant_refused : (at : ℕ) (base e : Tree) (form : Option LinearForm) (w 
 constant_refused at base e form w f x h = first_cause (constant_sought base) (base_told at e form w f) (term_cause x) h
 
 pub base_refused : (at : ℕ) (base e : Tree) (form : Option LinearForm) (w : ℤ) (f : ProperTerm) (b : Option Fraction) (x : TermFault)
-    → (constant_sought base).outcome ≡ Ok b → HasCause (base_or_refused at b) (term_cause x) → HasCause (exponential_left at base e form w f) (term_cause x)
+    → (constant_sought base).outcome ≡ Ok b → HasCause (base_or_refused at b) (term_cause x)
+        → HasCause (exponential_left at base e form w f) (term_cause x)
 base_refused at base e form w f b x found h =
-    later_cause (constant_sought base) (base_told at e form w f) b (term_cause x) found (first_cause (base_or_refused at b) (form_told at e form w f) (term_cause x) h)
+    later_cause (constant_sought base) (base_told at e form w f) b (term_cause x) found
+        (first_cause (base_or_refused at b) (form_told at e form w f) (term_cause x) h)
 
 base_leads : (at : ℕ) (base e : Tree) (form : Option LinearForm) (w : ℤ) (f : ProperTerm) (b : Option Fraction) (b1 : Fraction)
     → HasBase at base b b1 → Leads (exponential_left at base e form w f) (form_told at e form w f b1)
@@ -84,7 +86,8 @@ base_leads at base e form w f b b1 h = leads_on (leads (constant_sought base) (b
 pub form_refused : (at : ℕ) (base e : Tree) (form : Option LinearForm) (w : ℤ) (f : ProperTerm) (b : Option Fraction) (b1 : Fraction) (x : TermFault)
     → HasBase at base b b1 → HasCause (form_or_refused 5 e form) (term_cause x) → HasCause (exponential_left at base e form w f) (term_cause x)
 form_refused at base e form w f b b1 x h no_form =
-    (base_leads at base e form w f b b1 h).cause (term_cause x) (first_cause (form_or_refused 5 e form) (limits_told at w f b1) (term_cause x) no_form)
+    (base_leads at base e form w f b b1 h).cause (term_cause x) (first_cause (form_or_refused 5 e form) (limits_told at w f b1)
+        (term_cause x) no_form)
 
 form_leads : (at : ℕ) (base e : Tree) (form : Option LinearForm) (w : ℤ) (f : ProperTerm) (b : Option Fraction) (b1 : Fraction) (l : LinearForm)
     → HasBase at base b b1 → (form_or_refused 5 e form).outcome ≡ Ok l → Leads (exponential_left at base e form w f) (limits_told at w f b1 l)
@@ -95,7 +98,8 @@ pub exponent_refused : (at : ℕ) (base e : Tree) (form : Option LinearForm) (w 
     (l : LinearForm) (x : TermFault) → HasBase at base b b1 → (form_or_refused 5 e form).outcome ≡ Ok l → HasCause (limited_exponent l) (term_cause x)
     → HasCause (exponential_left at base e form w f) (term_cause x)
 exponent_refused at base e form w f b b1 l x h linear passed =
-    (form_leads at base e form w f b b1 l h linear).cause (term_cause x) (first_cause (limited_exponent l) (λ l1. times_exponential at b1 l w f) (term_cause x) passed)
+    (form_leads at base e form w f b b1 l h linear).cause (term_cause x)
+        (first_cause (limited_exponent l) (λ l1. times_exponential at b1 l w f) (term_cause x) passed)
 
 pub exponential_leads : (at : ℕ) (base e : Tree) (form : Option LinearForm) (w : ℤ) (f : ProperTerm) (b : Option Fraction) (b1 : Fraction)
     (l l2 : LinearForm) → HasBase at base b b1 → (form_or_refused 5 e form).outcome ≡ Ok l → (limited_exponent l).outcome ≡ Ok l2

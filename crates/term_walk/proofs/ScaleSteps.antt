@@ -36,9 +36,11 @@ module _ (at : ℕ) (z w : ℤ) (f : ProperTerm) where
       ap (λ (t : TermSteps ProperTerm). t.outcome) (number_steps n)
       ∙ later_outcome (times_power at f.scale (of_whole z) w) (λ s. gives (with_scale s f)) s (Ok (with_scale s f)) e refl
 
-  pub number_fault : (x : TermFault) → z ≢ pos 0 → HasCause (times_power at f.scale (of_whole z) w) (term_cause x) → HasCause (times_number at z w f) (term_cause x)
+  pub number_fault : (x : TermFault) → z ≢ pos 0 → HasCause (times_power at f.scale (of_whole z) w) (term_cause x)
+      → HasCause (times_number at z w f) (term_cause x)
   number_fault x n h =
-      subst (λ t. HasCause t (term_cause x)) (sym (number_steps n)) (first_cause (times_power at f.scale (of_whole z) w) (λ s. gives (with_scale s f)) (term_cause x) h)
+      subst (λ t. HasCause t (term_cause x)) (sym (number_steps n)) (first_cause (times_power at f.scale (of_whole z) w)
+          (λ s. gives (with_scale s f)) (term_cause x) h)
 
 -- one over a form
 module _ (at : ℕ) (l : LinearForm) (w : ℕ) (f : ProperTerm) where
@@ -57,9 +59,11 @@ module _ (at : ℕ) (l : LinearForm) (w : ℕ) (f : ProperTerm) where
   pub more_fault : (x : TermFault) → HasCause few (term_cause x) → HasCause (with_denominator at l w f) (term_cause x)
   more_fault x h = first_cause few (λ g. over_content g then (λ s. gives (with_scale s g))) (term_cause x) h
 
-  pub content_fault : (g : ProperTerm) (x : TermFault) → few.outcome ≡ Ok g → HasCause (over_content g) (term_cause x) → HasCause (with_denominator at l w f) (term_cause x)
+  pub content_fault : (g : ProperTerm) (x : TermFault) → few.outcome ≡ Ok g → HasCause (over_content g) (term_cause x)
+      → HasCause (with_denominator at l w f) (term_cause x)
   content_fault g x e h =
-      later_cause few (λ g. over_content g then (λ s. gives (with_scale s g))) g (term_cause x) e (first_cause (over_content g) (λ s. gives (with_scale s g)) (term_cause x) h)
+      later_cause few (λ g. over_content g then (λ s. gives (with_scale s g))) g (term_cause x) e
+          (first_cause (over_content g) (λ s. gives (with_scale s g)) (term_cause x) h)
 
 -- a base to the power of a form
 module _ (at : ℕ) (base : Fraction) (e : LinearForm) (w : ℤ) (f : ProperTerm) where
@@ -86,11 +90,13 @@ module _ (at : ℕ) (base : Fraction) (e : LinearForm) (w : ℤ) (f : ProperTerm
   pub n_fault : (x : TermFault) → HasCause of_n (term_cause x) → HasCause (times_exponential at base e w f) (term_cause x)
   n_fault x h = first_cause of_n (λ b. of_k then (last b)) (term_cause x) h
 
-  pub k_fault : (b : Fraction) (x : TermFault) → of_n.outcome ≡ Ok b → HasCause of_k (term_cause x) → HasCause (times_exponential at base e w f) (term_cause x)
+  pub k_fault : (b : Fraction) (x : TermFault) → of_n.outcome ≡ Ok b → HasCause of_k (term_cause x)
+      → HasCause (times_exponential at base e w f) (term_cause x)
   k_fault b x p h = later_cause of_n (λ b. of_k then (last b)) b (term_cause x) p (first_cause of_k (last b) (term_cause x) h)
 
   pub scale_fault : (b c : Fraction) (x : TermFault) → of_n.outcome ≡ Ok b → of_k.outcome ≡ Ok c → HasCause of_scale (term_cause x)
       → HasCause (times_exponential at base e w f) (term_cause x)
   scale_fault b c x p q h =
       later_cause of_n (λ b. of_k then (last b)) b (term_cause x) p
-      (later_cause of_k (last b) c (term_cause x) q (first_cause of_scale (λ s. gives (with_n_base b (with_k_base c (with_scale s f)))) (term_cause x) h))
+      (later_cause of_k (last b) c (term_cause x) q (first_cause of_scale (λ s. gives (with_n_base b (with_k_base c (with_scale s f))))
+          (term_cause x) h))

@@ -27,7 +27,8 @@ pub(crate) fn times_factorial_of(
 ) -> Result<Gathered, TermFault>
     requires not_zero { power ≢ pos 0 }
     requires small { unsigned_abs power ≤ 12 }
-    ensures answers { (at : ℕ) → Answers term_cause gathered_of (walk (tree at (factorial_of (tree_of argument.now))) power (gathered_of gathered)) result }
+    ensures answers { (at : ℕ) → Answers term_cause gathered_of (walk (tree at (factorial_of (tree_of argument.now))) power
+        (gathered_of gathered)) result }
 {
     let form = argument_of_tree(alloc, argument)?;
     not_negative_number(argument.at, form)?;
@@ -66,7 +67,8 @@ fn times_two_forms(
 ) -> Result<Gathered, TermFault>
     requires not_zero { power ≢ pos 0 }
     requires small { unsigned_abs power ≤ 12 }
-    ensures answers { Answers term_cause gathered_of (difference_left at (wide_form_of upper) (wide_form_of lower) power (gathered_of gathered)) result }
+    ensures answers { Answers term_cause gathered_of (difference_left at (wide_form_of upper) (wide_form_of lower) power
+        (gathered_of gathered)) result }
 {
     let between = difference(alloc, at, upper, lower)?;
     not_negative_number(at, between)?;

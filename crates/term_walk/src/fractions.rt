@@ -89,7 +89,8 @@ impl Gathered {
         requires base_not_zero { (fraction_value base.now).top ≢ pos 0 }
         requires small { unsigned_abs power ≤ 12 }
         requires small_exponent { unsigned_abs (form_of exponent).offset ≤ 12 }
-        ensures answers { Answers term_cause gathered_of (times_exponential at (fraction_value base.now) (form_of exponent) power (gathered_of self)) result }
+        ensures answers { Answers term_cause gathered_of (times_exponential at (fraction_value base.now) (form_of exponent) power
+            (gathered_of self)) result }
     {
         let Gathered {
             poly,

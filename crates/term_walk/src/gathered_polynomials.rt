@@ -48,7 +48,8 @@ impl Gathered {
     ) -> Result<Gathered, TermFault>
         requires not_zero { power ≢ pos 0 }
         requires small { unsigned_abs power ≤ 12 }
-        ensures answers { Answers term_cause gathered_of (times_sought at power (gathered_of self) (found ⟦<Znk as Ring>⟧.meaning polynomial)) result }
+        ensures answers { Answers term_cause gathered_of (times_sought at power (gathered_of self)
+            (found ⟦<Znk as Ring>⟧.meaning polynomial)) result }
     {
         let Some(polynomial) = polynomial else {
             return Err(TermFault::Improper { reason: 6, at });
@@ -89,7 +90,8 @@ impl Gathered {
         power: u32,
     ) -> Result<Gathered, TermFault>
         requires no_number { constant_in_k (items (⟦<Znk as Ring>⟧.meaning polynomial)) ≡ None }
-        ensures answers { Answers term_cause gathered_of (times_polynomial at (⟦<Znk as Ring>⟧.meaning polynomial) (pos power) (gathered_of self)) result }
+        ensures answers { Answers term_cause gathered_of (times_polynomial at (⟦<Znk as Ring>⟧.meaning polynomial) (pos power)
+            (gathered_of self)) result }
     {
         let Gathered {
             poly,

@@ -7,6 +7,7 @@ ghost use Rattle.hypergeometric.specs.TreePolynomial.{constant_in_n};
 ghost use Rattle.lin_form.specs.Forms.{form_of};
 ghost use Rattle.steps.specs.Answers.{Answers};
 ghost use Rattle.steps.specs.Found.{found};
+ghost use Rattle.steps.specs.Limits.{greatest_count};
 ghost use Rattle.steps.specs.Operations.{of_number};
 ghost use Rattle.steps.specs.Steps.{makes};
 ghost use Rattle.steps.specs.TermFaults.{term_cause};
@@ -140,6 +141,7 @@ pub(crate) fn exponent_within_limits(form: WideForm) -> Result<LinForm, TermFaul
 
 // The form, where its slopes and its offset are within their limits.
 fn within_offset_limit(form: WideForm, name: LimitName) -> Result<LinForm, TermFault>
+    requires small { greatest_count name ≤ 2 ^ 40 }
     ensures answers { Answers term_cause form_of (form_within name (wide_form_of form)) result }
 {
     let n_slope = number_within(form.n_slope, LimitName::Slope)?;

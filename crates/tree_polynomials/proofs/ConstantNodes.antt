@@ -22,7 +22,8 @@ use Rattle.tree_polynomials.proofs.NextParts.{next_part}
 
 -- where a tree has no polynomial, its node decides
 pub other_answer : {T : Type 0} (view : T → Option Fraction) (a : Ast) (node : d.Node) (s : TermSteps (Option Fraction)) (result : Result T TermFault)
-    → node_of a.node ≡ node → node_constant_sought a.at node ≡ s → (polynomial_sought (tree_of a)).outcome ≡ Ok None → Answers term_cause view s result
+    → node_of a.node ≡ node → node_constant_sought a.at node ≡ s → (polynomial_sought (tree_of a)).outcome ≡ Ok None
+        → Answers term_cause view s result
     → Answers term_cause view (constant_sought (tree_of a)) result
 other_answer view a node s result e same none h =
     let here : tree_of a ≡ d.tree a.at node = tree_of-at a ∙ ap (d.tree a.at) e in
@@ -42,7 +43,8 @@ only_part (q ∷ r ∷ ps) p turned some few is e = absurd (omega (arith, few))
 
 -- behind a minus
 pub negated_answer : {T : Type 0} (view : T → Option Fraction) (ps : List Part) (p : Part) (result : Result T TermFault)
-    → parts_of ps ≡ d.part true (tree_of p.ast) d.no_parts → Answers term_cause view (constant_sought (tree_of p.ast) then (λ f. gives (negative_of f))) result
+    → parts_of ps ≡ d.part true (tree_of p.ast) d.no_parts → Answers term_cause view
+        (constant_sought (tree_of p.ast) then (λ f. gives (negative_of f))) result
     → Answers term_cause view (negative_sought (parts_of ps)) result
 negated_answer view ps p result one h = subst (λ ps. Answers term_cause view (negative_sought ps) result) (sym one) h
 
@@ -84,7 +86,8 @@ module _ (ps : List Part) (i : ℕ) (p : Part) (done : List FractionFactor) (bel
   pub constant_none : (constant_sought (tree_of p.ast)).outcome ≡ Ok None → (constants_sought (parts_of ps)).outcome ≡ Ok None
   constant_none e = part_none part_steps factor_with rest whole done here e
 
-  pub constant_fault : (x : TermFault) → HasCause (constant_sought (tree_of p.ast)) (term_cause x) → HasCause (constants_sought (parts_of ps)) (term_cause x)
+  pub constant_fault : (x : TermFault) → HasCause (constant_sought (tree_of p.ast)) (term_cause x)
+      → HasCause (constants_sought (parts_of ps)) (term_cause x)
   constant_fault x e = part_fault part_steps factor_with rest whole done (term_cause x) here e
 
 -- past the last part the constants so far are all

@@ -47,7 +47,8 @@ limited_then {B} c f = by (limited Exponent (unsigned_abs c) c)
 -- the exponent of a power, and then its base
 pub power_case : (at : ℕ) (base e : Tree)
     → node_constant_sought at (power_of base e) ≡ (exponent_sought e then (λ c. where_some c (power_sought at base)))
-power_case at base e = sym (then_assoc (polynomial_sought e) (λ p. where_some (constant_of p) limited_constant) (λ c. where_some c (power_sought at base))
+power_case at base e = sym (then_assoc (polynomial_sought e) (λ p. where_some (constant_of p) limited_constant)
+    (λ c. where_some c (power_sought at base))
     ∙ ap (λ f. polynomial_sought e then f) (λ i p. by (constant_of p) i))
   where
     by : (c : Option ℤ) → (where_some c limited_constant then (λ d. where_some d (power_sought at base)))

@@ -46,7 +46,8 @@ product_size a b =
 -- a refused product of two fractions is out of bounds
 pub product_fault : (at : ℕ) (f g : RingFraction) (fault : RingFault) → OnFault (¬ FractionProductInBounds whole_algebra f g) fault
     → HasCause (makes at (of_fraction (size_of_top (whole_fraction f) * size_of_top (whole_fraction g))
-    (size_of_bottom (whole_fraction f) * size_of_bottom (whole_fraction g))) (fraction_product (whole_fraction f) (whole_fraction g))) (term_cause (fault_of at fault))
+    (size_of_bottom (whole_fraction f) * size_of_bottom (whole_fraction g))) (fraction_product (whole_fraction f) (whole_fraction g)))
+        (term_cause (fault_of at fault))
 product_fault at f g fault h =
     ring_cause (makes at counterpart product) at (¬ FractionProductInBounds whole_algebra f g) fault h
     (λ out. made_too_large at counterpart (λ small. out (record {

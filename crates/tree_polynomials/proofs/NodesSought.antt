@@ -21,7 +21,8 @@ use Rattle.term_classes.specs.Sought.{sum_of_polynomials, product_of_polynomials
 use Rattle.tree_polynomials.specs.Exponents.{raised_to}
 
 -- an answer of the same steps
-pub same_answer : {T A : Type 0} (result : Result T TermFault) (view : T → A) (s t : TermSteps A) → s ≡ t → Answers term_cause view t result → Answers term_cause view s result
+pub same_answer : {T A : Type 0} (result : Result T TermFault) (view : T → A) (s t : TermSteps A) → s ≡ t → Answers term_cause view t result
+    → Answers term_cause view s result
 same_answer result view s t e h = subst (λ u. Answers term_cause view u result) (sym e) h
 
 node_sought : (a : Ast) (node : d.Node) → node_of a.node ≡ node → polynomial_sought (tree_of a) ≡ node_polynomial_sought a.at node
@@ -73,7 +74,8 @@ product_answer result x a ps qs view given e h o k =
     same_answer result (found view) (polynomial_sought (tree_of a))
     (factors_sought (parts_of qs) then made_of a.at (λ ps. of_polynomial (sizes_multiplied ps)) product_of_polynomials)
     (product_sought a qs (e ∙ ap Product (sym h)))
-    (later_answer term_cause (found view) (factors_sought (parts_of qs)) (made_of a.at (λ ps. of_polynomial (sizes_multiplied ps)) product_of_polynomials)
+    (later_answer term_cause (found view) (factors_sought (parts_of qs))
+        (made_of a.at (λ ps. of_polynomial (sizes_multiplied ps)) product_of_polynomials)
     (found given x) result o k)
 
 -- what was found, or that nothing was
@@ -81,5 +83,6 @@ pub some_found : {T A : Type 0} (x : Option T) (y : T) (view : T → A) (s : Ter
     → s.outcome ≡ Ok (Some (view y))
 some_found x y view s e h = e ∙ ap (λ t. Ok (found view t)) h
 
-pub none_found : {T A : Type 0} (x : Option T) (view : T → A) (s : TermSteps (Option A)) → s.outcome ≡ Ok (found view x) → x ≡ None → s.outcome ≡ Ok None
+pub none_found : {T A : Type 0} (x : Option T) (view : T → A) (s : TermSteps (Option A)) → s.outcome ≡ Ok (found view x) → x ≡ None → s.outcome
+    ≡ Ok None
 none_found x view s e h = e ∙ ap (λ t. Ok (found view t)) h

@@ -81,7 +81,8 @@ size_bound z = record {
 -- a refused product with a power is out of bounds
 pub power_fault : (at : ℕ) (p b : ℤ) (n : ℕ) (fault : RingFault)
     → OnFault ((bound : Passing whole_algebra) → IsBound whole_algebra bound (number p)
-    → ¬ whole_algebra.ops.Fits (whole_algebra.ops.product bound.0 (power_in whole_algebra.ops (nonzero_magnitude whole_algebra.ops (number b)) n))) fault
+    → ¬ whole_algebra.ops.Fits (whole_algebra.ops.product bound.0 (power_in whole_algebra.ops
+        (nonzero_magnitude whole_algebra.ops (number b)) n))) fault
     → HasCause (makes at (of_number (nonzero_size p * nonzero_size (pow b n))) (p *ℤ pow b n)) (term_cause (fault_of at fault))
 power_fault at p b n fault h =
     ring_cause (makes at (of_number (nonzero_size p * nonzero_size (pow b n))) (p *ℤ pow b n)) at _ fault h

@@ -32,9 +32,11 @@ module _ (ps : List Part) (i : ℕ) (p : Part) (done : List Meaning) (below : i 
   pub summand_none : (polynomial_sought (tree_of p.ast)).outcome ≡ Ok None → (summands_sought (parts_of ps)).outcome ≡ Ok None
   summand_none e = part_none (polynomial_sought (tree_of p.ast)) (signed_polynomial p.turned) sums_behind (summands_sought (parts_of ps)) done there e
 
-  pub summand_fault : (x : TermFault) → HasCause (polynomial_sought (tree_of p.ast)) (term_cause x) → HasCause (summands_sought (parts_of ps)) (term_cause x)
+  pub summand_fault : (x : TermFault) → HasCause (polynomial_sought (tree_of p.ast)) (term_cause x)
+      → HasCause (summands_sought (parts_of ps)) (term_cause x)
   summand_fault x k =
-      part_fault (polynomial_sought (tree_of p.ast)) (signed_polynomial p.turned) sums_behind (summands_sought (parts_of ps)) done (term_cause x) there k
+      part_fault (polynomial_sought (tree_of p.ast)) (signed_polynomial p.turned) sums_behind (summands_sought (parts_of ps)) done
+          (term_cause x) there k
 
 -- those of a product
 module _ (ps : List Part) (i : ℕ) (p : Part) (done : List Meaning) (below : i < length ps) (is : p ≡ get_or ps i p)
@@ -59,7 +61,8 @@ module _ (ps : List Part) (i : ℕ) (p : Part) (done : List Meaning) (below : i 
   pub factor_none : p.turned ≡ false → (polynomial_sought (tree_of p.ast)).outcome ≡ Ok None → (factors_sought (parts_of ps)).outcome ≡ Ok None
   factor_none f e = part_none (polynomial_sought (tree_of p.ast)) (λ m. m) products_behind (factors_sought (parts_of ps)) done (turned_to false f) e
 
-  pub factor_fault : (x : TermFault) → p.turned ≡ false → HasCause (polynomial_sought (tree_of p.ast)) (term_cause x) → HasCause (factors_sought (parts_of ps)) (term_cause x)
+  pub factor_fault : (x : TermFault) → p.turned ≡ false → HasCause (polynomial_sought (tree_of p.ast)) (term_cause x)
+      → HasCause (factors_sought (parts_of ps)) (term_cause x)
   factor_fault x f k =
       part_fault (polynomial_sought (tree_of p.ast)) (λ m. m) products_behind (factors_sought (parts_of ps)) done (term_cause x) (turned_to false f) k
 

@@ -52,10 +52,12 @@ module _ (a base exponent : Ast) (is : a.node ≡ Pow base exponent) (read : Ast
         subst (λ s. Leads s (after_exponent power)) (sym whole)
         (subst (λ t. ToExponent after_exponent (raised_to (polynomial_sought (tree_of read)) after_exponent) (Ok t)) e (h after_exponent))
 
-    pub base_fault : (x : TermFault) → HasCause (polynomial_sought (tree_of b)) (term_cause x) → HasCause (polynomial_sought (tree_of a)) (term_cause x)
+    pub base_fault : (x : TermFault) → HasCause (polynomial_sought (tree_of b)) (term_cause x)
+        → HasCause (polynomial_sought (tree_of a)) (term_cause x)
     base_fault x k =
         leads.cause (term_cause x)
-        (first_cause (polynomial_sought (tree_of base)) (raised_at a.at power) (term_cause x) (subst (λ t. HasCause (polynomial_sought (tree_of t)) (term_cause x)) b_is k))
+        (first_cause (polynomial_sought (tree_of base)) (raised_at a.at power) (term_cause x)
+            (subst (λ t. HasCause (polynomial_sought (tree_of t)) (term_cause x)) b_is k))
 
     pub base_raised : {T : Type 0} (result : Result (Option T) TermFault) (x : Option T) (view : T → Meaning)
         → (polynomial_sought (tree_of b)).outcome ≡ Ok (found view x) → Answers term_cause (found view) (raised_at a.at power (found view x)) result

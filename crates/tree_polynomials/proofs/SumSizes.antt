@@ -86,7 +86,8 @@ sum_step xs meaning i x m sum some within is h e =
 
 -- a summand whose sum with those behind it is out of bounds
 pub sum_out : {T : Type 0} (xs : List T) (meaning : T → Meaning) (passes : (x : T) → IsTrue ((level 2).passes (meaning x)))
-    (i : ℕ) (x : T) (m : Meaning) → 0 < i → i ≤ length xs → x ≡ get_or xs (i - 1) x → m ≡ sum_of_polynomials (map meaning (drop i xs)) → ¬ SumInBounds (level 2) (meaning x) m
+    (i : ℕ) (x : T) (m : Meaning) → 0 < i → i ≤ length xs → x ≡ get_or xs (i - 1) x → m ≡ sum_of_polynomials (map meaning (drop i xs))
+        → ¬ SumInBounds (level 2) (meaning x) m
     → ¬ in_n_and_k.Fits (sizes_added (map meaning xs))
 sum_out xs meaning passes i x m some within is h out =
     step_out meaning passes xs (i - 1) x (drop i xs) m (item_first xs i x some within is) h out

@@ -23,7 +23,8 @@ pub(crate) fn answer_at(
     at: u32,
     polynomial: Result<Znk, RingFault>,
 ) -> Result<Option<Znk>, TermFault>
-    ensures leaf { (m : Meaning) → Gives ⟦<Znk as Ring>⟧.meaning m polynomial → Answers term_cause (found ⟦<Znk as Ring>⟧.meaning) (gives (Some m)) result }
+    ensures leaf { (m : Meaning) → Gives ⟦<Znk as Ring>⟧.meaning m polynomial
+        → Answers term_cause (found ⟦<Znk as Ring>⟧.meaning) (gives (Some m)) result }
     ensures made { (m counterpart : Meaning) → IfOk polynomial (λ p. ⟦<Znk as Ring>⟧.meaning p ≡ m)
         → IfErr polynomial (OnFault (¬ in_n_and_k.Fits counterpart))
         → Answers term_cause (found ⟦<Znk as Ring>⟧.meaning) (makes at (of_polynomial counterpart) (Some m)) result }
@@ -55,7 +56,8 @@ pub(crate) fn multiplied(
     at: u32,
     factors: Option<Vec<Znk>>,
 ) -> Result<Option<Znk>, TermFault>
-    ensures answers { Answers term_cause (found ⟦<Znk as Ring>⟧.meaning) (made_of at (λ ps. of_polynomial (sizes_multiplied ps)) product_of_polynomials
+    ensures answers { Answers term_cause (found ⟦<Znk as Ring>⟧.meaning)
+        (made_of at (λ ps. of_polynomial (sizes_multiplied ps)) product_of_polynomials
         (found (λ list. map ⟦<Znk as Ring>⟧.meaning list.items) factors)) result }
 {
     match factors {

@@ -39,7 +39,8 @@ returns-in_err-lower_form c =
     let sought = upper_leads c.args.at upper lower w f l c.in_ok-upper_form.ensures.answers in
     rw (p.1, p.2) (record {
       answers = sought.cause (term_cause c.in_err-lower_form.field-0.0) (first_cause (argument_sought lower)
-          (λ m. forms_left c.args.at (place_of upper) (place_of lower) l m w f) (term_cause c.in_err-lower_form.field-0.0) c.in_err-lower_form.ensures.answers);
+          (λ m. forms_left c.args.at (place_of upper) (place_of lower) l m w f)
+              (term_cause c.in_err-lower_form.field-0.0) c.in_err-lower_form.ensures.answers);
     })
 
 -- a negative upper argument
@@ -76,7 +77,8 @@ returns-in_err-not_negative_number-2 c =
     c.in_ok-not_negative_number.ensures.answers) in
     rw (p.1, p.2) (record {
       answers = kept.cause (term_cause c.in_err-not_negative_number-2.field-0.0) (first_cause (not_negative c.args.lower.now.at m)
-          (λ m1. difference_left c.args.at l m w f) (term_cause c.in_err-not_negative_number-2.field-0.0) c.in_err-not_negative_number-2.ensures.answers);
+          (λ m1. difference_left c.args.at l m w f) (term_cause c.in_err-not_negative_number-2.field-0.0)
+              c.in_err-not_negative_number-2.ensures.answers);
     })
 
 -- the two forms

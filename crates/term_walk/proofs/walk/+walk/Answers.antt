@@ -31,7 +31,8 @@ walk_factors-returns-in_err-gathered t c =
     let p = err_from_is_err_and c.from_residual.result c.from_residual.ensures.1 in
     let known = rw c.power_of_part.ensures.power at c.in_err-gathered.ensures.answers in
     rw (p.1, p.2) (record {
-      answers = c.loop-part.invariant.cause (term_cause c.in_err-gathered.field-0.0) (part_refused c.args.parts.now c.loop-part.part-index c.part-item.result
+      answers = c.loop-part.invariant.cause (term_cause c.in_err-gathered.field-0.0)
+          (part_refused c.args.parts.now c.loop-part.part-index c.part-item.result
           c.args.power.value (gathered_of c.loop-part.gathered) c.in_err-gathered.field-0.0 c.loop-part-test.true c.part-item.is known);
     })
 
@@ -124,7 +125,8 @@ walk_node-returns-in-Constant t c =
     record {
       answers = pow_answer c.args.tree.now c.in-Pow.base c.in-Pow.exponent c.get.result.now c.args.power.value (gathered_of c.args.gathered)
           (constant c.in-Constant.product.value) c.walk_node-in-Constant.result c.in-Pow.is c.get.ensures told
-          (subst (λ a. Answers term_cause gathered_of (walk (tree_of a) c.in-Constant.product.value (gathered_of c.args.gathered)) c.walk_node-in-Constant.result)
+          (subst (λ a. Answers term_cause gathered_of (walk (tree_of a) c.in-Constant.product.value
+              (gathered_of c.args.gathered)) c.walk_node-in-Constant.result)
           c.get-in-Constant.ensures c.walk_node-in-Constant.ensures.answers);
     }
 

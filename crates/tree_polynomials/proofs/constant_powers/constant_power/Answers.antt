@@ -22,7 +22,8 @@ returns c =
     (fraction_same (ap number_of c.bottom-bottom.ensures.bottom) (ap number_of c.top-top.ensures.top)) c.natural_power-2.ensures.answers in
     record {
       answers = subst (λ (s : TermSteps (Option Fraction)). Answers term_cause (found fraction_value) s c.natural_power-2.result)
-          (negative_power c.args.at c.args.power.value c.unsigned_abs-times.result f (omega (arith, ints, c.if-value-ge0.false, c.value-2.ensures.value))
+          (negative_power c.args.at c.args.power.value c.unsigned_abs-times.result f
+              (omega (arith, ints, c.if-value-ge0.false, c.value-2.ensures.value))
           (omega (arith, ints, c.unsigned_abs-times.ensures.value, c.value.ensures.value))
           (λ e. c.if-value-eq0.false (ap (λ z. of_z w128 z) (c.value-3.ensures.value ∙ ap number_of c.top-top.ensures.top ∙ e))))
           turned;

@@ -24,8 +24,10 @@ use Rattle.tree_polynomials.proofs.constants.+sought.Goals as goal
 -- a power, after its base
 pub constant_of_power-returns : goal.constant_of_power-returns
 constant_of_power-returns t c = record {
-  answers = later_answer term_cause (found fraction_value) (constant_sought (tree_of c.args.base.now)) (λ f. where_some f (power_made c.args.at c.args.power.value))
-      (Some (fraction_value c.in-Some.base)) c.constant_power.result (rw c.in-Some.is at c.in_ok-base.ensures.answers) c.constant_power.ensures.answers;
+  answers = later_answer term_cause (found fraction_value) (constant_sought (tree_of c.args.base.now))
+      (λ f. where_some f (power_made c.args.at c.args.power.value))
+      (Some (fraction_value c.in-Some.base)) c.constant_power.result (rw c.in-Some.is at c.in_ok-base.ensures.answers)
+          c.constant_power.ensures.answers;
 }
 
 -- a product, after its parts
@@ -33,7 +35,8 @@ pub constant_of_product-returns-in_err-factors : goal.constant_of_product-return
 constant_of_product-returns-in_err-factors t c =
     let parts = parts_of c.args.parts.now in
     record {
-      answers = fault_answer term_cause (found fraction_value) (constants_sought parts then product_made c.args.at) c.from_residual.result c.in_err-factors.field-0.0
+      answers = fault_answer term_cause (found fraction_value) (constants_sought parts then product_made c.args.at) c.from_residual.result
+          c.in_err-factors.field-0.0
           c.from_residual.ensures.1
           (first_cause (constants_sought parts) (product_made c.args.at) (term_cause c.in_err-factors.field-0.0) c.in_err-factors.ensures.answers);
     }
@@ -42,7 +45,8 @@ pub constant_of_product-returns : goal.constant_of_product-returns
 constant_of_product-returns t c = record {
   answers = later_answer term_cause (found fraction_value) (constants_sought (parts_of c.args.parts.now)) (product_made c.args.at)
       (Some (factors_of c.in-Some.factors)) c.product_in_lowest_terms.result (rw c.in-Some.is at c.in_ok-factors.ensures.answers)
-      (subst (λ (xs : List Factor). Answers term_cause (found fraction_value) (product_made c.args.at (Some (factors_of xs))) c.product_in_lowest_terms.result)
+      (subst (λ (xs : List Factor). Answers term_cause (found fraction_value)
+          (product_made c.args.at (Some (factors_of xs))) c.product_in_lowest_terms.result)
       c.as_slice.ensures c.product_in_lowest_terms.ensures.answers);
 }
 
@@ -65,7 +69,8 @@ constant_of_sum-returns-in_err-constant t c =
     let fault = c.in_err-constant.field-0.0 in
     record {
       answers = negated_answer (found fraction_value) c.args.parts.now p c.from_residual.result one
-          (fault_answer term_cause (found fraction_value) (part then (λ f. gives (negative_of f))) c.from_residual.result fault c.from_residual.ensures.1
+          (fault_answer term_cause (found fraction_value) (part then (λ f. gives
+              (negative_of f))) c.from_residual.result fault c.from_residual.ensures.1
           (first_cause part (λ f. gives (negative_of f)) (term_cause fault) c.in_err-constant.ensures.answers));
     }
 
@@ -75,7 +80,8 @@ constant_of_sum-returns-in_default-2 t c =
     let one = only_part c.args.parts.now p true c.in-len1.len_at_least c.in-len1.len_below c.part-item.is c.if-not-part.false in
     record {
       answers = ap (λ ps. (negative_sought ps).outcome) one
-          ∙ then_outcome (constant_sought (tree_of p.ast)) (λ f. gives (negative_of f)) None (rw c.in_default-2.is at c.in_ok-constant.ensures.answers);
+          ∙ then_outcome (constant_sought (tree_of p.ast)) (λ f. gives (negative_of f)) None
+              (rw c.in_default-2.is at c.in_ok-constant.ensures.answers);
     }
 
 pub constant_of_sum-returns : goal.constant_of_sum-returns
@@ -95,8 +101,10 @@ constant_of_tree-returns-in-Sum t c =
     let ps = c.in-Sum.parts in
     record {
       answers = other_answer (found fraction_value) c.args.tree.now (d.sum_of (parts_of ps)) (negative_sought (parts_of ps)) c.constant_of_sum.result
-          (ap node_of c.in-Sum.is ∙ node_of-sum ps) (sum_case c.args.tree.now.at (parts_of ps)) (rw c.in_default.is at c.in_ok-polynomial.ensures.answers)
-          (subst (λ (ps : List Part). Answers term_cause (found fraction_value) (negative_sought (parts_of ps)) c.constant_of_sum.result) c.as_slice.ensures
+          (ap node_of c.in-Sum.is ∙ node_of-sum ps) (sum_case c.args.tree.now.at (parts_of ps))
+              (rw c.in_default.is at c.in_ok-polynomial.ensures.answers)
+          (subst (λ (ps : List Part). Answers term_cause (found fraction_value)
+              (negative_sought (parts_of ps)) c.constant_of_sum.result) c.as_slice.ensures
           c.constant_of_sum.ensures.answers);
     }
 
@@ -106,8 +114,10 @@ constant_of_tree-returns-in-Product t c =
     let at = c.args.tree.now.at in
     record {
       answers = other_answer (found fraction_value) c.args.tree.now (d.product_of (parts_of ps)) (constants_sought (parts_of ps) then product_made at)
-          c.constant_of_product.result (ap node_of c.in-Product.is ∙ node_of-product ps) refl (rw c.in_default.is at c.in_ok-polynomial.ensures.answers)
-          (subst (λ (ps : List Part). Answers term_cause (found fraction_value) (constants_sought (parts_of ps) then product_made at) c.constant_of_product.result)
+          c.constant_of_product.result (ap node_of c.in-Product.is ∙ node_of-product ps) refl
+              (rw c.in_default.is at c.in_ok-polynomial.ensures.answers)
+          (subst (λ (ps : List Part). Answers term_cause (found fraction_value)
+              (constants_sought (parts_of ps) then product_made at) c.constant_of_product.result)
           c.as_slice-in-Product.ensures c.constant_of_product.ensures.answers);
     }
 
@@ -118,7 +128,8 @@ constant_of_tree-returns-in_err-power-in-Pow t c =
     let e = tree_of c.in-Pow.exponent in
     let fault = c.in_err-power-in-Pow.field-0.0 in
     record {
-      answers = other_answer (found fraction_value) c.args.tree.now (d.power_of base e) (exponent_sought e then (λ x. where_some x (power_sought at base)))
+      answers = other_answer (found fraction_value) c.args.tree.now (d.power_of base e)
+          (exponent_sought e then (λ x. where_some x (power_sought at base)))
           c.from_residual-in_err-power-in-Pow.result (ap node_of c.in-Pow.is ∙ node_of-pow c.in-Pow.base c.in-Pow.exponent) (power_case at base e)
           (rw c.in_default.is at c.in_ok-polynomial.ensures.answers)
           (fault_answer term_cause (found fraction_value) (exponent_sought e then (λ x. where_some x (power_sought at base)))
@@ -134,13 +145,16 @@ constant_of_tree-returns-in-Some-2 t c =
     let e = tree_of c.in-Pow.exponent in
     let result = c.constant_of_power.result in
     record {
-      answers = other_answer (found fraction_value) c.args.tree.now (d.power_of base e) (exponent_sought e then (λ x. where_some x (power_sought at base)))
+      answers = other_answer (found fraction_value) c.args.tree.now (d.power_of base e)
+          (exponent_sought e then (λ x. where_some x (power_sought at base)))
           result (ap node_of c.in-Pow.is ∙ node_of-pow c.in-Pow.base c.in-Pow.exponent) (power_case at base e)
           (rw c.in_default.is at c.in_ok-polynomial.ensures.answers)
-          (later_answer term_cause (found fraction_value) (exponent_sought e) (λ x. where_some x (power_sought at base)) (Some c.in-Some-2.power.value) result
+          (later_answer term_cause (found fraction_value) (exponent_sought e) (λ x. where_some x (power_sought at base))
+              (Some c.in-Some-2.power.value) result
           (subst (λ (a : Ast). (exponent_sought (tree_of a)).outcome ≡ Ok (Some c.in-Some-2.power.value)) c.get.ensures
           (rw c.in-Some-2.is at c.in_ok-power-in-Pow.ensures.answers))
-          (subst (λ (a : Ast). Answers term_cause (found fraction_value) (power_sought at (tree_of a) c.in-Some-2.power.value) result) c.get-in-Pow.ensures
+          (subst (λ (a : Ast). Answers term_cause (found fraction_value)
+              (power_sought at (tree_of a) c.in-Some-2.power.value) result) c.get-in-Pow.ensures
           c.constant_of_power.ensures.answers));
     }
 
@@ -149,7 +163,8 @@ pub constants_of-returns-in_err-fraction : goal.constants_of-returns-in_err-frac
 constants_of-returns-in_err-fraction t c =
     let fault = c.in_err-fraction.field-0.0 in
     record {
-      answers = fault_answer term_cause (found factors_of) (constants_sought (parts_of c.args.parts.now)) c.from_residual.result fault c.from_residual.ensures.1
+      answers = fault_answer term_cause (found factors_of) (constants_sought
+          (parts_of c.args.parts.now)) c.from_residual.result fault c.from_residual.ensures.1
           (constant_fault c.args.parts.now c.loop-part.part-index c.part-item.result (factors_of c.loop-part.factors) c.loop-part-test.true
           c.part-item.is c.loop-part.invariant fault c.in_err-fraction.ensures.answers);
     }

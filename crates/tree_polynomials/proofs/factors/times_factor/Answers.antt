@@ -23,5 +23,6 @@ returns-in-Err c =
     record {
       answers = subst (cause (factor_fraction (factor_of c.args.factor.now))) (sym c.fault_at.ensures.fault)
           (subst (λ (g : Fraction). cause g (fault_of c.args.at c.in-Err.fault)) c.multiplier-multiplier.ensures.fraction
-          (product_fault c.args.at (fraction_of c.args.product.now) (fraction_of c.multiplier-multiplier.result) c.in-Err.fault c.in-Err.ensures.gives));
+          (product_fault c.args.at (fraction_of c.args.product.now) (fraction_of c.multiplier-multiplier.result) c.in-Err.fault
+              c.in-Err.ensures.gives));
     }

@@ -66,7 +66,8 @@ pub polynomial_of_tree-returns-in_err-base-in-Pow : goal.polynomial_of_tree-retu
 polynomial_of_tree-returns-in_err-base-in-Pow t c = record {
   answers = fault_answer term_cause (found meaning_of) (polynomial_sought (tree_of c.args.tree.now)) c.from_residual-in_err-base-in-Pow.result
       c.in_err-base-in-Pow.field-0.0 c.from_residual-in_err-base-in-Pow.ensures.1
-      (base_fault c.args.tree.now c.in-Pow.base c.in-Pow.exponent c.in-Pow.is c.get.result.now c.get.ensures c.in_ok-power-in-Pow.field-0 c.in-Some.power
+      (base_fault c.args.tree.now c.in-Pow.base c.in-Pow.exponent c.in-Pow.is c.get.result.now c.get.ensures c.in_ok-power-in-Pow.field-0
+          c.in-Some.power
       c.in_ok-power-in-Pow.ensures.exponent c.in-Some.is c.get-in-Pow.result.now c.get-in-Pow.ensures c.in_err-base-in-Pow.field-0.0
       c.in_err-base-in-Pow.ensures.answers);
 }
@@ -88,7 +89,8 @@ exponent_of-returns t c = record {
 -- the parts of a sum
 pub summands_of-returns-in_err-polynomial : goal.summands_of-returns-in_err-polynomial
 summands_of-returns-in_err-polynomial t c = record {
-  answers = fault_answer term_cause (found (λ list. each_of list.items meaning_of)) (summands_sought (parts_of c.args.parts.now)) c.from_residual.result
+  answers = fault_answer term_cause (found (λ list. each_of list.items meaning_of))
+      (summands_sought (parts_of c.args.parts.now)) c.from_residual.result
       c.in_err-polynomial.field-0.0 c.from_residual.ensures.1
       (summand_fault c.args.parts.now c.loop-part.part-index c.part-item.result _ c.loop-part-test.true c.part-item.is c.loop-part.invariant
       c.in_err-polynomial.field-0.0 c.in_err-polynomial.ensures.answers);
@@ -117,7 +119,8 @@ summands_of-returns t c = record { answers = summands_done c.args.parts.now c.lo
 -- those of a product
 pub factors_of-returns-in_err-factor : goal.factors_of-returns-in_err-factor
 factors_of-returns-in_err-factor t c = record {
-  answers = fault_answer term_cause (found (λ list. each_of list.items meaning_of)) (factors_sought (parts_of c.args.parts.now)) c.from_residual.result
+  answers = fault_answer term_cause (found (λ list. each_of list.items meaning_of))
+      (factors_sought (parts_of c.args.parts.now)) c.from_residual.result
       c.in_err-factor.field-0.0 c.from_residual.ensures.1
       (factor_fault c.args.parts.now c.loop-part.part-index c.part-item.result _ c.loop-part-test.true c.part-item.is c.loop-part.invariant
       c.in_err-factor.field-0.0 c.if-part.false c.in_err-factor.ensures.answers);

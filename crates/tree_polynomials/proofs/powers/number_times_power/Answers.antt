@@ -20,7 +20,8 @@ returns-in-Ok c = record {
 -- the bound that is too large is the counterpart
 pub returns-in-Err : goal.returns-in-Err
 returns-in-Err c = record {
-  answers = subst (λ fault. HasCause (makes c.args.at (of_number (nonzero_size c.args.product.value * nonzero_size (pow c.args.base.value c.args.power)))
+  answers = subst (λ fault. HasCause (makes c.args.at (of_number (nonzero_size c.args.product.value * nonzero_size
+      (pow c.args.base.value c.args.power)))
       (c.args.product.value *ℤ pow c.args.base.value c.args.power)) (term_cause fault)) (sym c.fault_at.ensures.fault)
       (power_fault c.args.at c.args.product.value c.args.base.value c.args.power c.in-Err.fault c.in-Err.ensures.gives);
 }

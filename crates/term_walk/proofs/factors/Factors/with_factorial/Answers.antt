@@ -17,7 +17,8 @@ returns-then-power-gt0 c =
     record {
       answers = λ f. subst (λ s. Answers term_cause (with_factors f) s c.with_up.result)
           (sym (above (form_of c.args.form) c.args.power (with_factors f c.args.self) (is_positive c.args.power c.ranges.power c.if-power-gt0.true)))
-          (subst (λ m. Answers term_cause (with_factors f) (few_factors (with_lists (with_factor (form_of c.args.form) m (list_of c.args.self.up).factors)
+          (subst (λ m. Answers term_cause (with_factors f) (few_factors
+              (with_lists (with_factor (form_of c.args.form) m (list_of c.args.self.up).factors)
           (list_of c.args.self.down).factors (list_of c.args.self.over).factors f.guard f)) c.with_up.result) same (c.with_up.ensures.answers f));
     }
 
@@ -28,6 +29,8 @@ returns-else-power-gt0 c =
       answers = λ f. subst (λ s. Answers term_cause (with_factors f) s c.with_down.result)
           (sym (below (form_of c.args.form) c.args.power (with_factors f c.args.self) c.requires.not_zero
           (is_not_positive c.args.power c.ranges.power c.if-power-gt0.false)))
-          (subst (λ m. Answers term_cause (with_factors f) (few_factors (with_lists (list_of c.args.self.up).factors (with_factor (form_of c.args.form) m
-          (list_of c.args.self.down).factors) (list_of c.args.self.over).factors f.guard f)) c.with_down.result) same (c.with_down.ensures.answers f));
+          (subst (λ m. Answers term_cause (with_factors f) (few_factors
+              (with_lists (list_of c.args.self.up).factors (with_factor (form_of c.args.form) m
+          (list_of c.args.self.down).factors) (list_of c.args.self.over).factors f.guard f)) c.with_down.result) same
+              (c.with_down.ensures.answers f));
     }

@@ -17,7 +17,8 @@ with_denominator-requires-clause-not_zero c =
 
 pub returns : goal.returns
 returns c = record {
-  answers = linear_answer c.args.at (listed (map coefficient c.args.polynomial.list.items)) (gathered_of c.args.self) gathered_of c.with_denominator.result c.args.power
+  answers = linear_answer c.args.at (listed (map coefficient c.args.polynomial.list.items))
+      (gathered_of c.args.self) gathered_of c.with_denominator.result c.args.power
       (wide_form_of c.in-Some.form) (form_of c.in_ok-form.form) c.requires.some (sym c.in-Some.ensures.form) c.in_ok-form.ensures.answers
       c.with_denominator.ensures.answers;
 }

@@ -20,7 +20,8 @@ returns-in_err-n_base c =
     (record { sfits = c.product-n_power.type_inv }) c.ranges.power
     (record { sfits = c.n_slope.type_inv }) c.product-n_power.ensures.product c.n_slope.ensures.n_slope in
     record {
-      answers = fault_answer term_cause gathered_of (times_exponential c.args.at (fraction_value c.args.base.now) (form_of c.args.exponent) c.args.power (gathered_of c.args.self)
+      answers = fault_answer term_cause gathered_of (times_exponential c.args.at (fraction_value c.args.base.now)
+          (form_of c.args.exponent) c.args.power (gathered_of c.args.self)
           )
           c.from_residual.result c.in_err-n_base.field-0.0 c.from_residual.ensures.1
           (n_fault c.args.at (fraction_value c.args.base.now) (form_of c.args.exponent) c.args.power (gathered_of c.args.self)
@@ -41,7 +42,8 @@ returns-in_err-k_base c =
     (record { sfits = c.product-k_power.type_inv }) c.ranges.power
     (record { sfits = c.k_slope.type_inv }) c.product-k_power.ensures.product c.k_slope.ensures.k_slope in
     record {
-      answers = fault_answer term_cause gathered_of (times_exponential c.args.at (fraction_value c.args.base.now) (form_of c.args.exponent) c.args.power (gathered_of c.args.self)
+      answers = fault_answer term_cause gathered_of (times_exponential c.args.at (fraction_value c.args.base.now)
+          (form_of c.args.exponent) c.args.power (gathered_of c.args.self)
           )
           c.from_residual-in_err-k_base.result c.in_err-k_base.field-0.0 c.from_residual-in_err-k_base.ensures.1
           (k_fault c.args.at (fraction_value c.args.base.now) (form_of c.args.exponent) c.args.power (gathered_of c.args.self)
@@ -69,7 +71,8 @@ returns-in_err-scale c =
     (record { sfits = c.product-scale_power.type_inv }) c.ranges.power
     (record { sfits = c.offset.type_inv }) c.product-scale_power.ensures.product c.offset.ensures.offset in
     record {
-      answers = fault_answer term_cause gathered_of (times_exponential c.args.at (fraction_value c.args.base.now) (form_of c.args.exponent) c.args.power (gathered_of c.args.self)
+      answers = fault_answer term_cause gathered_of (times_exponential c.args.at (fraction_value c.args.base.now)
+          (form_of c.args.exponent) c.args.power (gathered_of c.args.self)
           )
           c.from_residual-in_err-scale.result c.in_err-scale.field-0.0 c.from_residual-in_err-scale.ensures.1
           (scale_fault c.args.at (fraction_value c.args.base.now) (form_of c.args.exponent) c.args.power (gathered_of c.args.self)

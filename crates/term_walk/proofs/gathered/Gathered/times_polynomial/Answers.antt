@@ -13,7 +13,8 @@ pub returns-then-power-gt0 : goal.returns-then-power-gt0
 returns-then-power-gt0 c =
     let same : c.unsigned_abs-count.result ≡ unsigned_abs c.args.power = size_is c.args.power _ c.ranges.power c.unsigned_abs-count.ensures.value in
     record {
-      answers = subst (λ w. Answers term_cause gathered_of (times_polynomial c.args.at (listed (map coefficient c.args.polynomial.list.items)) w (gathered_of c.args.self)) c.times_natural_power.result)
+      answers = subst (λ w. Answers term_cause gathered_of (times_polynomial c.args.at (listed (map coefficient c.args.polynomial.list.items)) w
+          (gathered_of c.args.self)) c.times_natural_power.result)
           (positive_is c.args.power c.unsigned_abs-count.result (is_positive c.args.power c.ranges.power c.if-power-gt0.true) same)
           c.times_natural_power.ensures.answers;
     }
@@ -22,7 +23,8 @@ pub returns-else-power-gt0 : goal.returns-else-power-gt0
 returns-else-power-gt0 c =
     let same : c.unsigned_abs-count.result ≡ unsigned_abs c.args.power = size_is c.args.power _ c.ranges.power c.unsigned_abs-count.ensures.value in
     record {
-      answers = subst (λ w. Answers term_cause gathered_of (times_polynomial c.args.at (listed (map coefficient c.args.polynomial.list.items)) w (gathered_of c.args.self)) c.over_natural_power.result)
+      answers = subst (λ w. Answers term_cause gathered_of (times_polynomial c.args.at (listed (map coefficient c.args.polynomial.list.items)) w
+          (gathered_of c.args.self)) c.over_natural_power.result)
           (negative_is c.args.power c.unsigned_abs-count.result (is_not_positive c.args.power c.ranges.power c.if-power-gt0.false) same)
           c.over_natural_power.ensures.answers;
     }

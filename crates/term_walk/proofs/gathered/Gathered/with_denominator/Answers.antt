@@ -66,13 +66,15 @@ returns-in_err-scale c =
     (gathered_of c.args.self))).outcome ≡ Ok (with_factors (gathered_of c.args.self) c.in_ok-factors.factors) =
     subst (λ l. (few_factors (with_lists (list_of c.args.self.factors.up).factors (list_of c.args.self.factors.down).factors
     (with_factor l c.args.power (list_of c.args.self.factors.over).factors) (gathered_of c.args.self).guard (gathered_of c.args.self))).outcome
-    ≡ Ok (with_factors (gathered_of c.args.self) c.in_ok-factors.factors)) found.primitive (c.in_ok-factors.ensures.answers (gathered_of c.args.self)) in
+    ≡ Ok (with_factors (gathered_of c.args.self) c.in_ok-factors.factors)) found.primitive
+        (c.in_ok-factors.ensures.answers (gathered_of c.args.self)) in
     record {
       answers = fault_answer term_cause gathered_of (with_denominator c.args.at (form_of c.args.form) c.args.power (gathered_of c.args.self))
           c.from_residual-in_err-scale.result c.in_err-scale.field-0.0 c.from_residual-in_err-scale.ensures.1
           (content_fault c.args.at (form_of c.args.form) c.args.power (gathered_of c.args.self)
           (with_factors (gathered_of c.args.self) c.in_ok-factors.factors) c.in_err-scale.field-0.0 few
-          (subst (λ f. HasCause (times_power c.args.at (fraction_value c.args.self.scale) f (neg_ℤ (pos c.args.power))) (term_cause c.in_err-scale.field-0.0)) content
+          (subst (λ f. HasCause (times_power c.args.at (fraction_value c.args.self.scale) f (neg_ℤ (pos c.args.power)))
+              (term_cause c.in_err-scale.field-0.0)) content
           (subst (λ w. HasCause (times_power c.args.at (fraction_value c.args.self.scale) (fraction_value c.number_fraction-content.result) w)
           (term_cause c.in_err-scale.field-0.0))
           (opposite_is c.from-2.result c.args.power (record { sfits = c.from-2.type_inv }) c.from-2.ensures c.requires.small)
@@ -92,7 +94,8 @@ invariant_of-result c =
     }) (some_number (form_of c.args.form) c.requires.not_zero) found.content) c.number_fraction-content.ensures.value c.from.ensures found.content in
     record {
       not_zero = c.args.self.not_zero;
-      lowest = power_lowest c.args.at (fraction_value c.args.self.scale) (fraction_value c.number_fraction-content.result) _ (fraction_of c.in_ok-scale.scale)
+      lowest = power_lowest c.args.at (fraction_value c.args.self.scale) (fraction_value c.number_fraction-content.result) _
+          (fraction_of c.in_ok-scale.scale)
           (lowest_defined (fraction_of c.args.self.scale) c.args.self.lowest)
           (subst IsNonzero (sym content) (whole_nonzero (content_of_form (form_of c.args.form))
           (content_not_zero (form_of c.args.form) (some_number (form_of c.args.form) c.requires.not_zero)))) c.in_ok-scale.ensures.answers;
@@ -114,11 +117,13 @@ returns c =
     (gathered_of c.args.self))).outcome ≡ Ok (with_factors (gathered_of c.args.self) c.in_ok-factors.factors) =
     subst (λ l. (few_factors (with_lists (list_of c.args.self.factors.up).factors (list_of c.args.self.factors.down).factors
     (with_factor l c.args.power (list_of c.args.self.factors.over).factors) (gathered_of c.args.self).guard (gathered_of c.args.self))).outcome
-    ≡ Ok (with_factors (gathered_of c.args.self) c.in_ok-factors.factors)) found.primitive (c.in_ok-factors.ensures.answers (gathered_of c.args.self)) in
+    ≡ Ok (with_factors (gathered_of c.args.self) c.in_ok-factors.factors)) found.primitive
+        (c.in_ok-factors.ensures.answers (gathered_of c.args.self)) in
     record {
       answers = denominator_given c.args.at (form_of c.args.form) c.args.power (gathered_of c.args.self)
           (with_factors (gathered_of c.args.self) c.in_ok-factors.factors) (fraction_value c.in_ok-scale.scale) few
-          (subst (λ f. (times_power c.args.at (fraction_value c.args.self.scale) f (neg_ℤ (pos c.args.power))).outcome ≡ Ok (fraction_value c.in_ok-scale.scale))
+          (subst (λ f. (times_power c.args.at (fraction_value c.args.self.scale) f (neg_ℤ (pos c.args.power))).outcome
+              ≡ Ok (fraction_value c.in_ok-scale.scale))
           content
           (subst (λ w. (times_power c.args.at (fraction_value c.args.self.scale) (fraction_value c.number_fraction-content.result) w).outcome
           ≡ Ok (fraction_value c.in_ok-scale.scale))
