@@ -1,14 +1,18 @@
 -- The tests of the claim of a polynomial in k, and the verdict that they give.
-use Rattle.std.specs.Prelude.{◌≡◌, ◌≢◌, ◌↔◌, Bool, IsTrue, ℤ, pos, ◌+ℤ◌, ◌-ℤ◌, ◌*ℤ◌, [], ◌∷◌, Result, Ok, Err}
+use Rattle.std.specs.Prelude.{◌≡◌, ◌≢◌, ◌↔◌, ℕ, Bool, IsTrue, ℤ, pos, ◌+ℤ◌, ◌-ℤ◌, ◌*ℤ◌, [], ◌∷◌, Result, Ok, Err}
 use Rattle.ring_laws.specs.Meaning.{Meaning, items}
 use Rattle.ring_laws.specs.Algebra.{SumInBounds, ProductInBounds}
 use Rattle.ring_laws.specs.Answer.{OnFault}
 use Rattle.ring_laws.specs.declared.faults.RingFault.{RingFault}
+use Rattle.ring_laws.specs.declared.faults.RingFault.TheVariants as ring
 use Rattle.poly_laws.specs.Shift.{poly_shift, ListShiftInBounds}
 use Rattle.poly_laws.specs.Values.{value_at, level}
 use Rattle.hypergeometric.specs.ProperTerm.{proper_value}
 use Rattle.hypergeometric.specs.Telescopes.{Telescopes}
 use Rattle.cert_text.specs.Readable.{Contents, document_of}
+use Rattle.cert_text.specs.declared.faults.EngineFault.{EngineFault}
+use Rattle.cert_text.specs.declared.faults.EngineFault.TheVariants as engine
+use Rattle.cert_text.specs.declared.faults.Place.TheVariants.{Claim}
 use Rattle.cert_checker.specs.declared.verdicts.Verdict.{Verdict}
 use Rattle.cert_checker.specs.declared.verdicts.Verdict.TheVariants.{Accepted, Rejected}
 use Rattle.cert_checker.specs.declared.verdicts.Reason.{Reason}
@@ -51,6 +55,11 @@ GivesSides meaning d (Err fault) = OnFault (¬ AreInBounds d) fault
 abbrev pub TestsEquation : Contents → Result Bool RingFault → Type 0
 TestsEquation d (Ok holds) = AreInBounds d × (IsTrue holds ↔ HasEquation d)
 TestsEquation d (Err fault) = OnFault (¬ AreInBounds d) fault
+
+-- a fault of the arithmetic of a claim
+abbrev pub claim_fault : ℕ → RingFault → EngineFault
+claim_fault claim ring.TooLarge = engine.TooLarge (Claim claim)
+claim_fault claim ring.Memory = engine.Memory
 
 -- the test is the first that fails
 abbrev pub IsFirstFailed : Contents → Reason → Type 0

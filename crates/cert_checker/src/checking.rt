@@ -4,7 +4,7 @@ ghost use Rattle.std.specs.Prelude.{◌≡◌, ◌≢◌, ℕ, pos, IsTrue, ◌�
 ghost use Rattle.ring_laws.specs.Answer.{OnFault};
 ghost use Rattle.cert_text.specs.Readable.{contents};
 ghost use Rattle.cert_checker.specs.Checks.{difference, multiple, HasCarrier, HasMultiplier, HasEquation, AreInBounds};
-ghost use Rattle.cert_checker.specs.Checks.{IsVerdictOf, IsAccepted, HasIdentity, ClaimTelescopes, GivesSides, TestsEquation};
+ghost use Rattle.cert_checker.specs.Checks.{IsVerdictOf, IsAccepted, HasIdentity, ClaimTelescopes, claim_fault, GivesSides, TestsEquation};
 
 use crate::verdicts::{Reason, Verdict};
 use cert_text::{EngineFault, Place, PolyDoc};
@@ -54,10 +54,19 @@ pub fn check_poly(alloc: Global, doc: &PolyDoc) -> Result<Verdict, EngineFault>
             unchecked: Vec::new(alloc),
         }),
         Ok(false) => Ok(rejected(Reason::Equation)),
-        Err(RingFault::TooLarge) => Err(EngineFault::TooLarge {
-            place: Place::Claim(0),
-        }),
-        Err(RingFault::Memory) => Err(EngineFault::Memory),
+        Err(fault) => Err(fault_at_claim(0, fault)),
+    }
+}
+
+// A fault of the arithmetic of a claim.
+fn fault_at_claim(claim: u32, fault: RingFault) -> EngineFault
+    ensures fault { result ≡ claim_fault claim fault }
+{
+    match fault {
+        RingFault::TooLarge => EngineFault::TooLarge {
+            place: Place::Claim(claim),
+        },
+        RingFault::Memory => EngineFault::Memory,
     }
 }
 

@@ -39,7 +39,7 @@ sums_bounded = record { passes = refl; fits = (lit≤ tt, at) }
     at (suc (suc (suc zero))) = lit< tt
     at (suc (suc (suc (suc k)))) = lit< tt
 
-squares_readable : AreReadable squares
+pub squares_readable : AreReadable squares
 squares_readable = record {
   poly = square_bounded;
   not_zero = λ e. cc;

@@ -17,3 +17,4 @@ mod SharedLines
 mod FieldsOfText
 mod ContentsReading
 mod KnownReadable
+mod OneOutcome

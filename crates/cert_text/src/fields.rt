@@ -10,7 +10,7 @@ ghost use Rattle.cert_text.specs.PolynomialDocument.{in_k};
 use crate::numbers::read_whole;
 use crate::polynomials::read_polynomial;
 use poly_generic::Zn;
-use ring_laws::{Ring, Whole};
+use ring_laws::{Ring, RingFault, Whole};
 use std::alloc::{AllocError, Global};
 
 // The greatest degree of the polynomial of a term.
@@ -68,7 +68,8 @@ pub(crate) fn polynomial_of_field(alloc: Global, field: &[u8]) -> Result<Zn, All
     }
     match Zn::zero(alloc) {
         Ok(zero) => Ok(zero),
-        Err(_) => Err(AllocError),
+        Err(RingFault::TooLarge) => unreachable!(),
+        Err(RingFault::Memory) => Err(AllocError),
     }
 }
 
@@ -86,6 +87,7 @@ pub(crate) fn term_polynomial_of_field(alloc: Global, field: &[u8]) -> Result<Zn
     }
     match Zn::one(alloc) {
         Ok(one) => Ok(one),
-        Err(_) => Err(AllocError),
+        Err(RingFault::TooLarge) => unreachable!(),
+        Err(RingFault::Memory) => Err(AllocError),
     }
 }

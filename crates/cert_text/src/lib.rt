@@ -19,7 +19,7 @@ mod reading;
 
 pub use documents::PolyDoc;
 pub use faults::{DocFault, EngineFault, Place};
-pub use laws::text_determines_contents;
+pub use laws::{one_outcome, text_determines_contents};
 pub use printing::print_poly_doc;
 pub use reading::read_poly_doc;
 

@@ -12,7 +12,7 @@ ghost use Rattle.cert_text.specs.Reading.{unsigned, IsMagnitudeText, IsStarOf, A
 use crate::cutting::until;
 use crate::numbers::{read_natural, read_sign, with_sign};
 use poly_generic::{Poly, Zn};
-use ring_laws::{Ring, Whole};
+use ring_laws::{Ring, RingFault, Whole};
 use std::alloc::{AllocError, Global};
 
 // What follows the star, if there is one.
@@ -80,7 +80,7 @@ fn noughts(alloc: Global) -> Result<Vec<Whole>, AllocError>
     ensures each { IfOk result (λ list. (k : ℕ) → value_in list.items k ≡ pos 0) }
 {
     let Some(nought) = with_sign(false, 0) else {
-        return Err(AllocError);
+        unreachable!()
     };
     vec![in alloc; nought; MAX_LENGTH]
 }
@@ -118,6 +118,7 @@ pub(crate) fn read_polynomial(alloc: Global, text: &[u8]) -> Result<Option<Zn>, 
     };
     match Poly::from_coefficients(coefficients) {
         Ok(poly) => Ok(Some(poly)),
-        Err(_) => Err(AllocError),
+        Err(RingFault::TooLarge) => unreachable!(),
+        Err(RingFault::Memory) => Err(AllocError),
     }
 }

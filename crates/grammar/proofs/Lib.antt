@@ -8,6 +8,7 @@ pub mod Follows
 pub mod TermKinds
 pub mod Fitting
 pub mod OneOutcome
+pub mod EachOutcome
 pub mod SmallLiterals
 pub mod KnownTexts
 pub mod KnownPlaces
