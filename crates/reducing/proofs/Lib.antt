@@ -16,3 +16,5 @@ mod KnownRows
 pub mod CommonForms
 pub mod CommonNumbers
 pub mod ZeroRows
+pub mod Constants
+pub mod ReducedVectors

@@ -9,3 +9,4 @@ pub mod PolynomialLaws
 pub mod SplitLaws
 pub mod PolynomialAnswers
 pub mod CommonForms
+pub mod NothingCommon

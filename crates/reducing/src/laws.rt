@@ -1,9 +1,14 @@
-//! What a reduction leaves, as laws.
+//! What a reduction leaves, and so what the vectors of elimination have, as laws.
 
-ghost use Rattle.std.specs.Prelude.{List};
+ghost use Rattle.std.specs.Prelude.{List, ℕ};
 ghost use Rattle.ring_laws.specs.Meaning.{Meaning};
 ghost use Rattle.poly_divide.specs.Content.{row_sizes, IsContent};
-ghost use Rattle.reducing.specs.PolynomialRows.{PolynomialsReduced};
+ghost use Rattle.whole_roots.specs.Differences.{polynomials};
+ghost use Rattle.kernel_laws.specs.Rows.{entry_at};
+ghost use Rattle.kernel_laws.specs.Kernels.{EndsAt};
+ghost use Rattle.kernel_laws.specs.Answers.{VectorOf};
+ghost use Rattle.reducing.specs.PolynomialRows.{PolynomialsReduced, polynomial_reduction};
+ghost use Rattle.reducing.specs.NothingCommon.{HasNothingCommon};
 ghost use Rattle.reducing.specs.CommonForms.{HasNoCommonForm, IsSomeNonzero};
 
 /// Of a reduced row of polynomials in which some coefficient isn't zero, no form `u*n + v` with u from 1 to 4 and no common divisor of u and
@@ -15,4 +20,12 @@ pub fn no_form_is_left()
 /// Of a reduced row of polynomials in which some coefficient isn't zero, no whole number above 1 divides every coefficient.
 pub fn no_content_is_left()
     ensures law { (old new : List Meaning) → PolynomialsReduced old new → IsSomeNonzero new → IsContent (row_sizes new) 1 }
+{}
+
+/// Of a vector of polynomials that the steps of elimination and back substitution give, neither a whole number above 1 nor a form `u*n + v` with u
+/// from 1 to 4 and no common divisor of u and v above 1 divides every entry.
+pub fn vectors_have_nothing_common()
+    ensures law { (columns : ℕ) (rows : List (List Meaning)) (free : ℕ) (vector : List Meaning) →
+        VectorOf polynomials polynomial_reduction columns rows free vector →
+        EndsAt polynomials.ops columns (entry_at polynomials.ops vector) free → HasNothingCommon vector }
 {}

@@ -16,7 +16,7 @@ mod row_contents;
 mod whole_rows;
 
 pub use domains::Reducing;
-pub use laws::{no_content_is_left, no_form_is_left};
+pub use laws::{no_content_is_left, no_form_is_left, vectors_have_nothing_common};
 
 #[cfg(test)]
 mod tests;

@@ -17,6 +17,8 @@ use Rattle.kernel_laws.specs.Reduction.{bare}
 use Rattle.kernel_laws.specs.Answers.{Vector, meant}
 use Rattle.kernel_laws.proofs.Belonging.{bare_at}
 use Rattle.reducing.specs.FactorLists.{laws, linear_is_factor}
+use Rattle.reducing.specs.NothingCommon.{DividesEntries, HasNothingCommon}
+use Rattle.reducing.proofs.ReducedVectors.{nothing_common}
 use Rattle.division_laws.specs.Polynomials.{coefficient_of}
 use Rattle.division_laws.proofs.Polynomials.{listed_at}
 use Rattle.key_laws.specs.CommonDivisors.{IsCommonDivisor}
@@ -24,11 +26,10 @@ use Rattle.key_laws.specs.DegreeBounds.{coefficient_count}
 use Rattle.key_laws.specs.KeyRows.{listing}
 use Rattle.key_laws.proofs.Columns.{listing_meant}
 use Rattle.right_claims.specs.Choice.{IsReduced}
-use Rattle.right_claims.specs.KeySolutions.{IsChosenVector, multiplier_of}
+use Rattle.right_claims.specs.KeySolutions.{rows_of_key, IsChosenVector, multiplier_of}
 use Rattle.right_claims.proofs.FreeVectors.{steps_free}
 use Rattle.right_claims.proofs.LeastSolutions.{entries, entries_are, y_value}
 use Rattle.right_claims.proofs.Listings.{listing_at}
-use Rattle.right_claims.proofs.ReducedVectors.{DividesEntries, HasNoneCommon, none_common}
 
 abbrev o : Ops Meaning
 o = (level 1).ops
@@ -71,11 +72,10 @@ module _ (normal : Normal) (tops : List Meaning) (count : ℕ) (size : length to
   first = coefficient_count bound
 
   -- nothing common divides each entry of the vector of the steps
-  none_of_row : HasNoneCommon (bare (level 1) h.row)
+  none_of_row : HasNothingCommon (bare (level 1) h.row)
   none_of_row =
       let found = steps_free normal tops count size bound free h.row h.by_steps in
-      none_common (first + count) free h.by_steps.by_steps.pivots h.row (bare (level 1) h.row) refl found.ends.within found.ends.here
-      h.by_steps.by_steps.back
+      nothing_common (first + count) (rows_of_key normal tops first) free (bare (level 1) h.row) h.by_steps.by_steps found.ends
 
   -- the coefficients of Y are its first entries
   coefficient_is : (k : ℕ) → k < first

@@ -10,7 +10,7 @@ use Rattle.whole_roots.specs.Differences.{polynomials}
 use Rattle.reducing.specs.TakenOut.{times_row, none, next}
 use Rattle.reducing.specs.PolynomialRows.{Row, meant, IsLeast, IsNonzeroAt, degree_at, divides, PolynomialsReduced}
 use Rattle.right_claims.proofs.KnownReductions.{stays_as_it_is, factors_of_n_and_one}
-use Rattle.right_claims.proofs.Constants.{no_form_divides}
+use Rattle.reducing.proofs.Constants.{no_form_divides}
 use Rattle.right_claims.proofs.KnownRows.{const, of_k, n_and_one, minus_n_and_one, of_one}
 
 abbrev pub number_in : (z : ℤ) → IsTrue (polynomials.passes (listed (number z ∷ []))) → Passing polynomials

@@ -20,7 +20,7 @@ use Rattle.whole_roots.proofs.FactorRoots.{factor_gives_root}
 use Rattle.kernel_laws.specs.Rows.{entry_at}
 use Rattle.reducing.specs.TakenOut.{times_row, none}
 use Rattle.reducing.specs.PolynomialRows.{Row, meant, IsLeast, divides, PolynomialsReduced}
-use Rattle.right_claims.proofs.Constants.{no_form_divides}
+use Rattle.reducing.proofs.Constants.{no_form_divides}
 
 -- a constant that isn't zero has no linear factors
 pub no_factors : (c : ℤ) → c ≢ pos 0 → IsTrue (polynomials.passes (listed (number c ∷ []))) → AreLinearFactors (listed (number c ∷ [])) []

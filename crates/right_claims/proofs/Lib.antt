@@ -6,8 +6,6 @@ pub mod LeastSolutions
 pub mod FormPowers
 pub mod WhatIsLeft
 pub mod LeftClaims
-pub mod Constants
-pub mod ReducedVectors
 pub mod OnePieces
 pub mod OneSolution
 pub mod OneCancelling

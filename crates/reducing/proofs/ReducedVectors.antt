@@ -6,27 +6,25 @@ use Rattle.std.specs.Int.{◌∣◌}
 use Rattle.std.specs.Prelude.{ℤ, pos}
 use Rattle.ring_laws.specs.Meaning.{Meaning}
 use Rattle.ring_laws.specs.Algebra.{Ops, Passing, within}
-use Rattle.poly_laws.specs.Values.{level}
 use Rattle.poly_divide.specs.Forms.{linear}
 use Rattle.whole_roots.specs.Differences.{polynomials}
 use Rattle.whole_roots.specs.LinearFactors.{IsProfileForm, form_power}
 use Rattle.kernel_laws.specs.Rows.{entry_at}
 use Rattle.kernel_laws.specs.RowSteps.{HasQuotient}
+use Rattle.kernel_laws.specs.Kernels.{EndsAt}
+use Rattle.kernel_laws.specs.Answers.{VectorOf}
 use Rattle.kernel_laws.specs.BackSubstitution.{zeros, unit_vector, BackRun, begin, step}
 use Rattle.reducing.specs.FactorLists.{laws, linear_is_factor}
 use Rattle.reducing.specs.TakenOut.{times_row}
+use Rattle.reducing.specs.NothingCommon.{DividesEntries, HasNothingCommon}
 use Rattle.reducing.specs.PolynomialRows.{Row, meant, PolynomialsReduced, polynomial_reduction}
 use Rattle.reducing.proofs.CommonForms.{no_common_form}
 use Rattle.reducing.proofs.CommonNumbers.{no_common_number, number_divides}
 use Rattle.reducing.proofs.ZeroRows.{zero_row}
-use Rattle.right_claims.proofs.Constants.{no_form_divides}
+use Rattle.reducing.proofs.Constants.{no_form_divides}
 
 abbrev o : Ops Meaning
 o = polynomials.ops
-
--- t divides each entry
-abbrev pub DividesEntries : Meaning → List Meaning → Type 0
-DividesEntries t row = (k : ℕ) → k < length row → HasQuotient polynomials t (entry_at polynomials.ops row k)
 
 pub record IsTimes (t : Meaning) (row : Row) : Type 0 where
   pub quotients : Row
@@ -39,17 +37,12 @@ divided t (x ∷ xs) h =
     let first = h 0 (omega arith) in
     record { quotients = first.quotient ∷ rest.quotients; is = cc (first.is, rest.is) }
 
--- neither a number above 1 nor a form of the profile divides each entry
-pub record HasNoneCommon (row : List Meaning) : Type 0 where
-  pub numbers : (c : ℕ) → 1 < c → ¬ (DividesEntries (polynomials.ops.whole (pos c)) row)
-  pub forms : (u : ℕ) (v : ℤ) → IsProfileForm u v → ¬ (DividesEntries (linear (pos u) v) row)
-
 not_one : (c : ℕ) → 1 < c → ¬ (c ∣ 1)
 not_one c b h = omega (arith, b, eq-one_of_dvd-one h)
 
 -- a reduced row with an entry that isn't zero
 of_reduced : (old : List Meaning) (row : Row) (k : ℕ) → ¬ (entry_at polynomials.ops (meant row) k ≡ polynomials.ops.nought)
-    → PolynomialsReduced old (meant row) → HasNoneCommon (meant row)
+    → PolynomialsReduced old (meant row) → HasNothingCommon (meant row)
 of_reduced old row k some h = record {
   numbers = λ c b d.
       let t = divided (o.whole (pos c)) row d in
@@ -88,7 +81,7 @@ unit_length (suc n) zero = ap suc (zeros_length n)
     zeros_length (suc n) = ap suc (zeros_length n)
 unit_length (suc n) (suc free) = ap suc (unit_length n free)
 
-of_unit : (n free : ℕ) → free < n → HasNoneCommon (unit_vector polynomials.ops n free)
+of_unit : (n free : ℕ) → free < n → HasNothingCommon (unit_vector polynomials.ops n free)
 of_unit n free b = record {
   numbers = λ c l d. number_of_one c l (at (o.whole (pos c)) d);
   forms = λ u v p d. form_of_one u v p.from_one (at (linear (pos u) v) d);
@@ -97,10 +90,15 @@ of_unit n free b = record {
     at : (t : Meaning) → DividesEntries t (unit_vector polynomials.ops n free) → HasQuotient polynomials t polynomials.ops.unit
     at t d = subst (HasQuotient polynomials t) (unit_here n free b) (d free (omega (arith, b, unit_length n free)))
 
-pub none_common : (n free : ℕ) (pivots : List (ℕ × List Meaning)) (row : Row) (vector : List Meaning) → vector ≡ meant row → free < n
-    → ¬ (entry_at polynomials.ops vector free ≡ polynomials.ops.nought)
-    → BackRun (level 1) polynomial_reduction n free pivots vector → HasNoneCommon vector
-none_common n free _ row _ e b some begin = of_unit n free b
-none_common n free _ row vector e b some (step h s) =
-    subst HasNoneCommon (sym e)
-    (of_reduced _ row free (λ z. some (ap (λ v. entry_at polynomials.ops v free) e ∙ z)) (subst (PolynomialsReduced _) e s.reduced))
+pub nothing_common : (columns : ℕ) (rows : List (List Meaning)) (free : ℕ) (vector : List Meaning)
+    → VectorOf polynomials polynomial_reduction columns rows free vector → EndsAt polynomials.ops columns (entry_at polynomials.ops vector) free
+    → HasNothingCommon vector
+nothing_common columns rows free vector h e = by h.pivots vector h.back e.here
+  where
+    by : (pivots : List (ℕ × List Meaning)) (vector : List Meaning) → BackRun polynomials polynomial_reduction columns free pivots vector
+        → ¬ (entry_at polynomials.ops vector free ≡ polynomials.ops.nought) → HasNothingCommon vector
+    by _ _ begin some = of_unit columns free e.within
+    by _ vector (step b s) some =
+        subst HasNothingCommon (sym s.reduced.result_is)
+        (of_reduced _ s.reduced.result free (λ z. some (ap (λ v. entry_at polynomials.ops v free) s.reduced.result_is ∙ z))
+        (subst (PolynomialsReduced _) s.reduced.result_is s.reduced))
