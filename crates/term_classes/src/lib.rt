@@ -1,7 +1,7 @@
 //! The class of a tree: the proper term that it stands for, or why it stands for none.
 //!
 //! `specs/` has the definitions, `proofs/` the laws that the crates above cite. The functions here do nothing: the contract of each is a law.
-//! Read `specs/Refusals.antt`, `specs/Steps.antt`, `specs/Sought.antt` (the polynomial and the constant of a tree), then `specs/Walk.antt`
+//! Read `specs/Sought.antt` (the polynomial and the constant of a tree), then `specs/Walk.antt`
 //! (the class), and `specs/ClassValues.antt` (what it means that a term has the value of a tree).
 #![tactic(auto)]
 
