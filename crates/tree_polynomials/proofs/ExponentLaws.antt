@@ -6,7 +6,7 @@ use Rattle.hypergeometric.specs.TreePolynomial.{constant_of}
 use Rattle.steps.proofs.Leading.{leads, leads_on}
 use Rattle.steps.specs.Found.{where_some}
 use Rattle.steps.specs.Leads.{Leads}
-use Rattle.steps.specs.TermFaults.{TermSteps}
+use Rattle.steps.specs.TermFaults.{TermSteps, term_cause}
 use Rattle.steps.specs.declared.faults.TermFault.{TermFault}
 use Rattle.tree_polynomials.specs.Exponents.{with_exponent, raised_to, ToExponent}
 
