@@ -69,7 +69,7 @@ impl Factors {
 
     // No factor.
     pub(crate) fn new(alloc: Global) -> Result<Factors, TermFault>
-        ensures answers { (f : ProperTerm) → Answers (with_factors f) (gives (with_lists [] [] [] f.guard f)) result }
+        ensures answers { (f : ProperTerm) → Answers term_cause (with_factors f) (gives (with_lists [] [] [] f.guard f)) result }
     {
         let up = no_form(alloc)?;
         let down = no_form(alloc)?;
@@ -93,7 +93,7 @@ impl Factors {
         requires down_scale { (list_of down).scale ≡ pos 1 }
         requires over_scale { (list_of over).scale ≡ pos 1 }
         requires counted { count ≡ total_power (list_of up).factors + total_power (list_of down).factors + total_power (list_of over).factors }
-        ensures answers { (f : ProperTerm) → Answers (with_factors f) (few_factors (with_lists
+        ensures answers { (f : ProperTerm) → Answers term_cause (with_factors f) (few_factors (with_lists
             (list_of up).factors (list_of down).factors (list_of over).factors f.guard f)) result }
     {
         if count > 24 {
@@ -114,7 +114,7 @@ impl Factors {
     fn with_up(self, form: LinForm, power: u32) -> Result<Factors, TermFault>
         requires some { 1 ≤ power }
         requires small { power ≤ 12 }
-        ensures answers { (f : ProperTerm) → Answers (with_factors f) (few_factors (with_lists
+        ensures answers { (f : ProperTerm) → Answers term_cause (with_factors f) (few_factors (with_lists
             (with_factor (form_of form) power (list_of self.up).factors) (list_of self.down).factors (list_of self.over).factors f.guard f)) result }
     {
         let Factors {
@@ -131,7 +131,7 @@ impl Factors {
     fn with_down(self, form: LinForm, power: u32) -> Result<Factors, TermFault>
         requires some { 1 ≤ power }
         requires small { power ≤ 12 }
-        ensures answers { (f : ProperTerm) → Answers (with_factors f) (few_factors (with_lists (list_of self.up).factors
+        ensures answers { (f : ProperTerm) → Answers term_cause (with_factors f) (few_factors (with_lists (list_of self.up).factors
             (with_factor (form_of form) power (list_of self.down).factors) (list_of self.over).factors f.guard f)) result }
     {
         let Factors {
@@ -148,7 +148,7 @@ impl Factors {
     pub(crate) fn with_over(self, form: LinForm, power: u32) -> Result<Factors, TermFault>
         requires some { 1 ≤ power }
         requires small { power ≤ 12 }
-        ensures answers { (f : ProperTerm) → Answers (with_factors f) (few_factors (with_lists (list_of self.up).factors (list_of self.down).factors
+        ensures answers { (f : ProperTerm) → Answers term_cause (with_factors f) (few_factors (with_lists (list_of self.up).factors (list_of self.down).factors
             (with_factor (form_of form) power (list_of self.over).factors) f.guard f)) result }
     {
         let Factors {
@@ -165,7 +165,7 @@ impl Factors {
     pub(crate) fn with_factorial(self, form: LinForm, power: i64) -> Result<Factors, TermFault>
         requires not_zero { power ≢ pos 0 }
         requires small { unsigned_abs power ≤ 12 }
-        ensures answers { (f : ProperTerm) → Answers (with_factors f) (with_factorial (form_of form) power (with_factors f self)) result }
+        ensures answers { (f : ProperTerm) → Answers term_cause (with_factors f) (with_factorial (form_of form) power (with_factors f self)) result }
     {
         let count = power.unsigned_abs() as u32;
         if power > 0 {
