@@ -10,7 +10,7 @@ use Rattle.lin_form.specs.FactorLists.{same_form, factor_with, power_of}
 use Rattle.lin_form.proofs.Lookups.{same_form_found}
 use Rattle.term_classes.specs.Forms.{with_numbers}
 use Rattle.term_pieces.specs.Products.{IsProductOf}
-use Rattle.term_pieces.specs.Pieces.{Top, Pieces, ArePiecesOf, carrier_of, poly_at_later_n, top_number, top_forms}
+use Rattle.term_pieces.specs.Pieces.{Top, Pieces, ArePiecesOf, carrier_of, poly_at_later_n, top_number, top_forms, top_at}
 use Rattle.normal_forms.specs.NormalForm.{Normal, sum_of_first, at_earlier_k, IsNormalFormOf}
 use Rattle.right_claims.specs.Claims.{PrintedForm}
 use Rattle.right_claims.specs.Orders.{IsSetting}
@@ -58,7 +58,7 @@ form c = record { matches = []; q = list_of (negsuc 0) (once (negsuc 0) (pos 1) 
 -- the orders 0 and 1: p_0 = 1; and p_0 = n - k + 1 and p_1 = n + 1
 abbrev pub pieces : Pieces
 pieces = record {
-  top = λ j. record { poly = (level 2).ops.unit; factors = list_of (pos 1) [] };
+  tops = record { poly = (level 2).ops.unit; factors = list_of (pos 1) [] } ∷ [];
   q0 = q_list (pos 0);
   r0 = r_list;
   carrier = carrier_of binomial 0;
@@ -69,7 +69,7 @@ later_top zero = record { poly = (level 2).ops.unit; factors = list_of (negsuc 0
 later_top (suc j) = record { poly = (level 2).ops.unit; factors = list_of (pos 1) (once (pos 1) (pos 0) (pos 1) ∷ []) }
 
 abbrev pub pieces_at_one : Pieces
-pieces_at_one = record { top = later_top; q0 = q_list (negsuc 0); r0 = r_list; carrier = carrier_of binomial 1 }
+pieces_at_one = record { tops = later_top 0 ∷ later_top 1 ∷ []; q0 = q_list (negsuc 0); r0 = r_list; carrier = carrier_of binomial 1 }
 
 and_none : (m : ℕ) → m ≡ m + 0
 and_none m = omega arith
@@ -77,6 +77,7 @@ and_none m = omega arith
 are_pieces : ArePiecesOf pieces binomial 0
 unfolding lib.IntN.pow lib.IntN.one
 are_pieces = record {
+  count = refl;
   poly = poly;
   factors = factors;
   q0 = record { scale = refl; sorted = (tt, tt); some = ((λ e. cc), tt); powers = λ f. and_none (power_of f pieces.q0.factors) };
@@ -84,17 +85,18 @@ are_pieces = record {
   carrier = refl;
 }
   where
-    poly : (j : ℕ) → j ≤ 0 → (level 2).ops.unit ≡ poly_at_later_n (level 2).ops.unit j
+    poly : (j : ℕ) → j ≤ 0 → (top_at pieces j).poly ≡ poly_at_later_n (level 2).ops.unit j
     poly zero l = refl
     poly (suc j) l = absurd (omega (arith, l))
 
-    factors : (j : ℕ) → j ≤ 0 → IsProductOf (list_of (pos 1) []) (top_number binomial 0 j) (top_forms binomial 0 j)
+    factors : (j : ℕ) → j ≤ 0 → IsProductOf (top_at pieces j).factors (top_number binomial 0 j) (top_forms binomial 0 j)
     factors zero l = record { scale = refl; sorted = tt; some = tt; powers = λ f. refl }
     factors (suc j) l = absurd (omega (arith, l))
 
 are_pieces_at_one : ArePiecesOf pieces_at_one binomial 1
 unfolding lib.IntN.pow lib.IntN.one
 are_pieces_at_one = record {
+  count = refl;
   poly = poly;
   factors = factors;
   q0 = record { scale = refl; sorted = (tt, tt); some = ((λ e. cc), tt); powers = λ f. and_none (power_of f pieces_at_one.q0.factors) };
@@ -102,12 +104,12 @@ are_pieces_at_one = record {
   carrier = refl;
 }
   where
-    poly : (j : ℕ) → j ≤ 1 → (later_top j).poly ≡ poly_at_later_n (level 2).ops.unit j
+    poly : (j : ℕ) → j ≤ 1 → (top_at pieces_at_one j).poly ≡ poly_at_later_n (level 2).ops.unit j
     poly zero l = refl
     poly (suc zero) l = refl
     poly (suc (suc j)) l = absurd (omega (arith, l))
 
-    factors : (j : ℕ) → j ≤ 1 → IsProductOf (later_top j).factors (top_number binomial 1 j) (top_forms binomial 1 j)
+    factors : (j : ℕ) → j ≤ 1 → IsProductOf (top_at pieces_at_one j).factors (top_number binomial 1 j) (top_forms binomial 1 j)
     factors zero l = record { scale = refl; sorted = (tt, tt); some = ((λ e. cc), tt); powers = λ f. and_none (power_of f (later_top 0).factors.factors) }
     factors (suc zero) l = record { scale = refl; sorted = (tt, tt); some = ((λ e. cc), tt); powers = λ f. and_none (power_of f (later_top 1).factors.factors) }
     factors (suc (suc j)) l = absurd (omega (arith, l))
