@@ -65,22 +65,6 @@ accepted d (Rejected claim reason) r exact = absurd (never_failed d reason r exa
 same_document : {text : List ℕ} (d e : Contents) → IsRight text d → IsTextOf text e → IsRight text e
 same_document {text} d e r read = subst (IsRight text) (one_document text d e r.read read) r
 
-outside : {text : List ℕ} (d : Contents) → IsRight text d → length text ≤ most_bytes Check → (refusal : Refusal) → IsCause Check text refusal → IsOutside refusal
-outside d r few Usage cause = cause
-outside d r few EmptyInput cause = cause
-outside d r few (refusal.Syntax kind at) cause = cause
-outside d r few (Line at) cause = absurd (cause.2.refused d r.read)
-outside d r few (LiteralTooLarge at) cause = cause
-outside d r few (Improper reason at) cause = cause
-outside d r few (TermLimit name counted) cause = cause
-outside d r few (TermTooLarge at) cause = cause
-outside d r few (ClaimTooLarge claim) (short, is, e, read, carrier, multiplier, large) = absurd (large (same_document d e r read).in_bounds)
-outside d r few (refusal.Limit limit counted) cause = absurd (omega (arith, few, cause.1))
-outside d r few Unbuilt cause = cause
-outside d r few Memory cause = tt
-outside d r few ReadFault cause = tt
-outside d r few WriteFault cause = tt
-
 pub always_accepted : (term text : List ℕ) → IsAnswerText term text → IsAlwaysAccepted text
 always_accepted term text answer =
     let d = (right answer).0 in
@@ -88,5 +72,5 @@ always_accepted term text answer =
       output = λ status written seen.
           let ends = accepted seen.document seen.verdict (same_document d seen.document r seen.read) seen.exact in
           (seen.status_is ∙ ends.0, seen.text_is ∙ ends.1);
-      cause = outside d r;
+      cause = λ few. document_cause text few (record { document = d; read = r.read; in_bounds = r.in_bounds });
     }

@@ -8,4 +8,5 @@ pub mod SmallTerms
 pub mod EqualTerms
 pub mod AnsweredTerms
 pub mod Outcomes
+pub mod Complete
 pub mod Accepted

@@ -4,4 +4,4 @@ use Rattle.ekhad_cli.proofs.lines.refuse.Goals as goal
 
 -- there was no memory for the line
 pub returns-in-Err-clause-said : goal.returns-in-Err-clause-said
-returns-in-Err-clause-said g c = (Memory, inr refl, refl, c.say-in-Err.ensures.line)
+returns-in-Err-clause-said g c = (Memory, inr (refl, λ fixed. let told = c.line_of.ensures.fixed fixed in cc), refl, c.say-in-Err.ensures.line)
