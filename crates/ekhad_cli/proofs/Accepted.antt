@@ -11,13 +11,9 @@ use Rattle.cert_checker.specs.declared.verdicts.Verdict.TheVariants.{Accepted, R
 use Rattle.cert_checker.specs.declared.verdicts.Reason.{Reason}
 use Rattle.cert_checker.specs.declared.verdicts.Reason.TheVariants.{Shape, Normal, Carrier, Zero, Poles, Equation, Case, Same, Sums}
 use Rattle.cert_checker.proofs.RightDocuments.{equation_of_identity}
-use Rattle.ekhad_cli.specs.declared.words.Command.TheVariants.{Check}
 use Rattle.ekhad_cli.specs.declared.status.Status.TheVariants.{Found}
-use Rattle.ekhad_cli.specs.declared.refusal.Refusal.{Refusal}
-use Rattle.ekhad_cli.specs.declared.refusal.Refusal.TheVariants.{Usage, EmptyInput, Line, LiteralTooLarge, TermTooLarge, ClaimTooLarge, Improper, TermLimit, Unbuilt, Memory, ReadFault, WriteFault}
-use Rattle.ekhad_cli.specs.declared.refusal.Refusal.TheVariants as refusal
-use Rattle.ekhad_cli.specs.Refusals.{IsOutside}
-use Rattle.ekhad_cli.specs.Commands.{most_bytes, IsAnswerText, verdict_text, verdict_status, IsCause, IsAlwaysAccepted}
+use Rattle.ekhad_cli.specs.Commands.{IsAnswerText, verdict_text, verdict_status, IsAlwaysAccepted}
+use Rattle.ekhad_cli.proofs.Complete.{document_cause}
 
 -- the document of a text passes each test, within bounds
 record IsRight (text : List ℕ) (d : Contents) : Type 0 where
