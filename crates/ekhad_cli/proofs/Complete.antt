@@ -32,23 +32,23 @@ no_fault {text} a fault = contents_or_fault a_term text (a.tree ∷ []) [] fault
 
 -- and the tree has one outcome
 not_refused : {text : List ℕ} (r : classes.Refusal) → IsAnswerableTerm text → ¬ IsRefusedBy text r
-not_refused r a (tree, read, refused) =
-    let same : tree ≡ a.tree = one_tree tree a.tree read a.read in
+not_refused r a (u, read, refused) =
+    let same : u ≡ a.tree = one_tree u a.tree read a.read in
     let outcome = ap (λ t. (class_of t).outcome) same in
     let class = a.class in
     cc
 
-not_unbuilt : {text : List ℕ} (tree : Tree) (f : ProperTerm) → IsAnswerableTerm text → HasTrees a_term text (tree ∷ [])
-    → (class_of tree).outcome ≡ Ok f → ¬ (¬ IsFirstRunTerm f)
-not_unbuilt tree f a read class unbuilt =
-    let same : tree ≡ a.tree = one_tree tree a.tree read a.read in
+not_unbuilt : {text : List ℕ} (u : Tree) (f : ProperTerm) → IsAnswerableTerm text → HasTrees a_term text (u ∷ [])
+    → (class_of u).outcome ≡ Ok f → ¬ (¬ IsFirstRunTerm f)
+not_unbuilt u f a read class unbuilt =
+    let same : u ≡ a.tree = one_tree u a.tree read a.read in
     let outcome = ap (λ t. (class_of t).outcome) same in
     let other = a.class in
     let term : a.term ≡ f = cc in
     unbuilt (subst IsFirstRunTerm term a.answered)
 
-not_too_large : {text : List ℕ} (tree : Tree) (at : ℕ) → IsAnswerableTerm text → HasTrees a_term text (tree ∷ []) → ¬ IsTooLargeAt (class_of tree) at
-not_too_large tree at a read large = a.in_bounds at (subst (λ t. IsTooLargeAt (class_of t) at) (one_tree tree a.tree read a.read) large)
+not_too_large : {text : List ℕ} (u : Tree) (at : ℕ) → IsAnswerableTerm text → HasTrees a_term text (u ∷ []) → ¬ IsTooLargeAt (class_of u) at
+not_too_large u at a read large = a.in_bounds at (subst (λ t. IsTooLargeAt (class_of t) at) (one_tree u a.tree read a.read) large)
 
 not_a_large_claim : {text : List ℕ} (d : Contents) → IsAnswerableDocument text → IsTextOf text d → ¬ (¬ AreInBounds d)
 not_a_large_claim {text} d a read large = large (subst AreInBounds (one_document text a.document d a.read read) a.in_bounds)
@@ -61,10 +61,10 @@ term_cause text few a (Line at) cause = cause
 term_cause text few a (LiteralTooLarge at) cause = absurd (no_fault a _ cause.1)
 term_cause text few a (Improper reason at) cause = absurd (not_refused _ a cause.1)
 term_cause text few a (TermLimit name counted) cause = absurd (not_refused _ a cause.1)
-term_cause text few a (TermTooLarge at) (short, tree, read, large) = absurd (not_too_large tree at a read large)
+term_cause text few a (TermTooLarge at) (short, large) = absurd (not_too_large large.0 at a large.1 large.2)
 term_cause text few a (ClaimTooLarge claim) cause = cause
 term_cause text few a (refusal.Limit limit counted) cause = absurd (omega (arith, few, cause.1))
-term_cause text few a Unbuilt (short, tree, read, f, class, unbuilt) = absurd (not_unbuilt tree f a read class unbuilt)
+term_cause text few a Unbuilt (short, unbuilt) = absurd (not_unbuilt unbuilt.0 unbuilt.2.0 a unbuilt.1 unbuilt.2.1 unbuilt.2.2)
 term_cause text few a Memory cause = tt
 term_cause text few a ReadFault cause = tt
 term_cause text few a WriteFault cause = tt

@@ -1,5 +1,5 @@
 -- What was read, written and said, put together.
-use Rattle.std.proofs.Common.{◌≡◌, ◌⊎◌, ◌≤◌, ◌<◌, ◌+◌, ℕ, suc, List, [], length, Option, Some, None, inl, inr, refl, sym, subst, arith}
+use Rattle.std.proofs.Common.{◌≡◌, ◌≢◌, ◌⊎◌, ◌≤◌, ◌<◌, ◌+◌, ℕ, suc, true, false, List, [], length, Option, Some, None, inl, inr, refl, sym, subst, arith}
 use Rattle.std.specs.Prelude.{IfSome}
 use Rattle.std.specs.Io.KnownBytes.{Appends, IsAtEnd}
 use Rattle.ek_io.specs.Transfer.{AppendsFront, TakesBytes}
@@ -7,6 +7,7 @@ use Rattle.ek_io.specs.declared.transfer.ReadEnd.{ReadEnd}
 use Rattle.ek_io.specs.declared.transfer.ReadEnd.TheVariants as read
 use Rattle.ekhad_cli.specs.declared.words.Command.{Command}
 use Rattle.ekhad_cli.specs.declared.status.Status.{Status}
+use Rattle.ekhad_cli.specs.declared.status.Status.TheVariants as status
 use Rattle.ekhad_cli.specs.declared.refusal.Refusal.{Refusal}
 use Rattle.ekhad_cli.specs.declared.refusal.Refusal.TheVariants.{Usage, EmptyInput, Line, LiteralTooLarge, TermTooLarge, ClaimTooLarge, Improper, TermLimit, Unbuilt, Memory, ReadFault, WriteFault}
 use Rattle.ekhad_cli.specs.declared.refusal.Refusal.TheVariants as refusal
@@ -42,6 +43,10 @@ end_early command read.Fault late = late
 end_early command (read.Limit n) late = late
 end_early command read.Memory late = late
 
+-- what failed isn't right
+pub differ : false ≡ true → ⊥
+differ e = cc
+
 -- What is said is the refusal, or want of memory where its line has a number.
 abbrev pub IsSaid : Refusal → Refusal → Type 0
 IsSaid refusal said = (said ≡ refusal) ⊎ ((said ≡ Memory) × (¬ IsFixed refusal))
@@ -53,6 +58,11 @@ caused words held refusal said cause (inl e) = subst (IsCaused words held) (sym 
 caused words held refusal said (inl u) (inr e) = absurd (e.1 (subst IsFixed (sym u.0) tt))
 caused words held refusal said (inr (command, bytes, is, those, c)) (inr e) =
     subst (IsCaused words held) (sym e.0) (inr (command, bytes, is, those, tt))
+
+-- A status that isn't that of want of memory is said of the refusal alone.
+said_itself : (refusal said : Refusal) (s : Status) → s ≢ status.Memory → IsSaid refusal said → status_of said ≡ s → status_of refusal ≡ s
+said_itself refusal said s other (inl e) is = subst (λ (r : Refusal). status_of r ≡ s) e is
+said_itself refusal said s other (inr e) is = absurd (other (sym (subst (λ (r : Refusal). status_of r ≡ s) e.0 is)))
 
 -- And it comes after the whole input was read where the refusal does.
 pub late : (left : Option (List ℕ)) (refusal said : Refusal) → (ComesLate refusal → IsAtEnd left) → IsSaid refusal said → ComesLate said → IsAtEnd left
@@ -74,6 +84,28 @@ comes_late Unbuilt h = tt
 comes_late Memory h = h
 comes_late ReadFault h = h
 comes_late WriteFault h = tt
+
+is_read_fault : (r : Refusal) → status_of r ≡ status.ReadFault → r ≡ ReadFault
+is_read_fault ReadFault e = refl
+is_read_fault Usage e = cc
+is_read_fault EmptyInput e = cc
+is_read_fault (refusal.Syntax kind at) e = cc
+is_read_fault (Line at) e = cc
+is_read_fault (LiteralTooLarge at) e = cc
+is_read_fault (Improper reason at) e = cc
+is_read_fault (TermTooLarge at) e = cc
+is_read_fault (ClaimTooLarge claim) e = cc
+is_read_fault (refusal.Limit limit counted) e = cc
+is_read_fault (TermLimit name counted) e = cc
+is_read_fault Unbuilt e = cc
+is_read_fault Memory e = cc
+is_read_fault WriteFault e = cc
+
+pub limit_said : (refusal said : Refusal) → IsSaid refusal said → status_of said ≡ status.Limit → status_of refusal ≡ status.Limit
+limit_said refusal said = said_itself refusal said status.Limit (λ e. cc)
+
+pub read_fault_said : (refusal said : Refusal) → IsSaid refusal said → status_of said ≡ status.ReadFault → refusal ≡ ReadFault
+read_fault_said refusal said is e = is_read_fault refusal (said_itself refusal said status.ReadFault (λ f. cc) is e)
 
 -- the command of the words writes this text of bytes that are those of the source, and ends with this status
 abbrev pub HasOutput : List (List ℕ) → Option (List ℕ) → Status → List ℕ → Type 0
