@@ -1,5 +1,5 @@
 -- What answers a term is accepted when it is checked: it is one document, whose claim passes each test within bounds.
-use Rattle.std.proofs.Common.{◌≡◌, ◌≢◌, ◌≤◌, ℕ, List, length, refl, ap, ◌∙◌, subst, arith}
+use Rattle.std.proofs.Common.{◌≡◌, ◌≢◌, ℕ, List, refl, ap, ◌∙◌, subst, arith}
 use Rattle.std.proofs.lemmas.Int.{ints}
 use Rattle.std.specs.Prelude.{ℤ, pos, ◌<ℤ◌, codes}
 use Rattle.document_text.specs.Document.{document_text}

@@ -1,6 +1,5 @@
 -- A text that is answered is refused only where memory or the outside fail.
-use Rattle.std.proofs.Common.{◌≡◌, ◌≤◌, ◌<◌, ℕ, List, [], ◌∷◌, length, Option, Some, Result, Ok, Err, inl, inr, ap, sym, ◌∙◌, subst, arith}
-use Rattle.std.specs.Prelude.{codes}
+use Rattle.std.proofs.Common.{◌≡◌, ◌≤◌, ℕ, List, [], ◌∷◌, length, Some, Ok, inl, inr, ap, sym, ◌∙◌, subst, arith}
 use Rattle.hypergeometric.specs.ProperTerm.{ProperTerm}
 use Rattle.hypergeometric.specs.Tree.{Tree}
 use Rattle.grammar.specs.Several.{a_term}
@@ -53,7 +52,8 @@ not_too_large u at a read large = a.in_bounds at (subst (λ t. IsTooLargeAt (cla
 not_a_large_claim : {text : List ℕ} (d : Contents) → IsAnswerableDocument text → IsTextOf text d → ¬ (¬ AreInBounds d)
 not_a_large_claim {text} d a read large = large (subst AreInBounds (one_document text a.document d a.read read) a.in_bounds)
 
-term_cause : (text : List ℕ) → length text ≤ most_bytes Gosper → IsAnswerableTerm text → (refusal : Refusal) → IsCause Gosper text refusal → IsOutside refusal
+term_cause : (text : List ℕ) → length text ≤ most_bytes Gosper → IsAnswerableTerm text
+    → (refusal : Refusal) → IsCause Gosper text refusal → IsOutside refusal
 term_cause text few a Usage cause = cause
 term_cause text few a EmptyInput cause = absurd (no_fault a _ cause.1)
 term_cause text few a (refusal.Syntax kind at) cause = absurd (no_fault a _ cause.1)
@@ -69,7 +69,8 @@ term_cause text few a Memory cause = tt
 term_cause text few a ReadFault cause = tt
 term_cause text few a WriteFault cause = tt
 
-pub document_cause : (text : List ℕ) → length text ≤ most_bytes Check → IsAnswerableDocument text → (refusal : Refusal) → IsCause Check text refusal → IsOutside refusal
+pub document_cause : (text : List ℕ) → length text ≤ most_bytes Check → IsAnswerableDocument text
+    → (refusal : Refusal) → IsCause Check text refusal → IsOutside refusal
 document_cause text few a Usage cause = cause
 document_cause text few a EmptyInput cause = cause
 document_cause text few a (refusal.Syntax kind at) cause = cause
@@ -97,7 +98,8 @@ one_command Check Check words e f = λ _. Check
 one_command Gosper Check words e f = absurd (omega (arith, ap first_length (sym e ∙ f)))
 one_command Check Gosper words e f = absurd (omega (arith, ap first_length (sym e ∙ f)))
 
-pub complete : (command : Command) (text : List ℕ) → IsAnswerable command text → (refusal : Refusal) → IsCause command text refusal → IsOutside refusal
+pub complete : (command : Command) (text : List ℕ) → IsAnswerable command text
+    → (refusal : Refusal) → IsCause command text refusal → IsOutside refusal
 complete Gosper text a = term_cause text a.0 a.1
 complete Check text a = document_cause text a.0 a.1
 

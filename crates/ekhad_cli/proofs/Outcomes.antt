@@ -35,7 +35,8 @@ pub end_caused : (command : Command) (held left : Option (List ℕ)) (end : Read
     → (bytes : List ℕ) × AreHeld held bytes × IsCause command bytes (refusal_of_end command end)
 end_caused command held left read.Fault limit same beyond taken is = let some = some_held held in (some.0, some.1, tt)
 end_caused command held left (read.Limit n) limit same beyond taken is =
-    too_many command held left n (subst (λ m. IfSome held (λ bytes. m < length bytes)) same (beyond n refl)) (taken n refl) (omega (arith, same, is n refl))
+    too_many command held left n (subst (λ m. IfSome held (λ bytes. m < length bytes)) same (beyond n refl)) (taken n refl)
+    (omega (arith, same, is n refl))
 end_caused command held left read.Memory limit same beyond taken is = let some = some_held held in (some.0, some.1, tt)
 
 pub end_early : (command : Command) (end : ReadEnd) → ¬ ComesLate (refusal_of_end command end)
@@ -65,7 +66,8 @@ said_itself refusal said s other (inl e) is = subst (λ (r : Refusal). status_of
 said_itself refusal said s other (inr e) is = absurd (other (sym (subst (λ (r : Refusal). status_of r ≡ s) e.0 is)))
 
 -- And it comes after the whole input was read where the refusal does.
-pub late : (left : Option (List ℕ)) (refusal said : Refusal) → (ComesLate refusal → IsAtEnd left) → IsSaid refusal said → ComesLate said → IsAtEnd left
+pub late : (left : Option (List ℕ)) (refusal said : Refusal) → (ComesLate refusal → IsAtEnd left) → IsSaid refusal said
+    → ComesLate said → IsAtEnd left
 late left refusal said h (inl e) l = h (subst ComesLate e l)
 late left refusal said h (inr e) l = absurd (subst ComesLate e.0 l)
 

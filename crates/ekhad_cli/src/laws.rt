@@ -16,7 +16,8 @@ pub fn answers_are_accepted()
 /// A text that a command answers is refused only for memory or the outside: so a run on it, with the words of the command and no fault
 /// of the source and of the output, ends with Found or Empty, or with Memory.
 pub fn answerable_texts_are_answered()
-    ensures cause { (command : Command) (text : List ℕ) → IsAnswerable command text → (refusal : Refusal) → IsCause command text refusal → IsOutside refusal }
+    ensures cause { (command : Command) (text : List ℕ) → IsAnswerable command text
+        → (refusal : Refusal) → IsCause command text refusal → IsOutside refusal }
     ensures run { (words : List (List ℕ)) (command : Command) (text : List ℕ) → AreWordsOf command words → IsAnswerable command text
         → (refusal : Refusal) → IsCaused words (Some text) refusal → IsOutside refusal }
 {}
