@@ -1,5 +1,5 @@
 -- What answers a term is accepted when it is checked: it is one document, whose claim passes each test within bounds.
-use Rattle.std.proofs.Common.{◌≡◌, ◌≢◌, ◌≤◌, ℕ, List, length, refl, ap, ◌∙◌, subst, arith}
+use Rattle.std.proofs.Common.{◌≡◌, ◌≢◌, ℕ, List, refl, ap, ◌∙◌, subst, arith}
 use Rattle.std.proofs.lemmas.Int.{ints}
 use Rattle.std.specs.Prelude.{ℤ, pos, ◌<ℤ◌, codes}
 use Rattle.document_text.specs.Document.{document_text}
@@ -11,13 +11,9 @@ use Rattle.cert_checker.specs.declared.verdicts.Verdict.TheVariants.{Accepted, R
 use Rattle.cert_checker.specs.declared.verdicts.Reason.{Reason}
 use Rattle.cert_checker.specs.declared.verdicts.Reason.TheVariants.{Shape, Normal, Carrier, Zero, Poles, Equation, Case, Same, Sums}
 use Rattle.cert_checker.proofs.RightDocuments.{equation_of_identity}
-use Rattle.ekhad_cli.specs.declared.words.Command.TheVariants.{Check}
 use Rattle.ekhad_cli.specs.declared.status.Status.TheVariants.{Found}
-use Rattle.ekhad_cli.specs.declared.refusal.Refusal.{Refusal}
-use Rattle.ekhad_cli.specs.declared.refusal.Refusal.TheVariants.{Usage, EmptyInput, Line, LiteralTooLarge, TermTooLarge, ClaimTooLarge, Improper, TermLimit, Unbuilt, Memory, ReadFault, WriteFault}
-use Rattle.ekhad_cli.specs.declared.refusal.Refusal.TheVariants as refusal
-use Rattle.ekhad_cli.specs.Refusals.{IsOutside}
-use Rattle.ekhad_cli.specs.Commands.{most_bytes, IsAnswerText, verdict_text, verdict_status, IsCause, IsAlwaysAccepted}
+use Rattle.ekhad_cli.specs.Commands.{IsAnswerText, verdict_text, verdict_status, IsAlwaysAccepted}
+use Rattle.ekhad_cli.proofs.Complete.{document_cause}
 
 -- the document of a text passes each test, within bounds
 record IsRight (text : List ℕ) (d : Contents) : Type 0 where
@@ -65,22 +61,6 @@ accepted d (Rejected claim reason) r exact = absurd (never_failed d reason r exa
 same_document : {text : List ℕ} (d e : Contents) → IsRight text d → IsTextOf text e → IsRight text e
 same_document {text} d e r read = subst (IsRight text) (one_document text d e r.read read) r
 
-outside : {text : List ℕ} (d : Contents) → IsRight text d → length text ≤ most_bytes Check → (refusal : Refusal) → IsCause Check text refusal → IsOutside refusal
-outside d r few Usage cause = cause
-outside d r few EmptyInput cause = cause
-outside d r few (refusal.Syntax kind at) cause = cause
-outside d r few (Line at) cause = absurd (cause.2.refused d r.read)
-outside d r few (LiteralTooLarge at) cause = cause
-outside d r few (Improper reason at) cause = cause
-outside d r few (TermLimit name counted) cause = cause
-outside d r few (TermTooLarge at) cause = cause
-outside d r few (ClaimTooLarge claim) (short, is, e, read, carrier, multiplier, large) = absurd (large (same_document d e r read).in_bounds)
-outside d r few (refusal.Limit limit counted) cause = absurd (omega (arith, few, cause.1))
-outside d r few Unbuilt cause = cause
-outside d r few Memory cause = tt
-outside d r few ReadFault cause = tt
-outside d r few WriteFault cause = tt
-
 pub always_accepted : (term text : List ℕ) → IsAnswerText term text → IsAlwaysAccepted text
 always_accepted term text answer =
     let d = (right answer).0 in
@@ -88,5 +68,5 @@ always_accepted term text answer =
       output = λ status written seen.
           let ends = accepted seen.document seen.verdict (same_document d seen.document r seen.read) seen.exact in
           (seen.status_is ∙ ends.0, seen.text_is ∙ ends.1);
-      cause = outside d r;
+      cause = λ few. document_cause text few (record { document = d; read = r.read; in_bounds = r.in_bounds });
     }

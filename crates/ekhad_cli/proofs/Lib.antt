@@ -8,4 +8,6 @@ pub mod SmallTerms
 pub mod EqualTerms
 pub mod AnsweredTerms
 pub mod Outcomes
+pub mod Converters
+pub mod Complete
 pub mod Accepted

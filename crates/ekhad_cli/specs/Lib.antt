@@ -4,3 +4,5 @@ pub mod Answer
 pub mod Commands
 pub mod Refusals
 pub mod Run
+pub mod Converted
+pub mod Answerable

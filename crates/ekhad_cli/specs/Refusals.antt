@@ -98,6 +98,14 @@ IsFixed (TermLimit name counted) = ⊥
 IsFixed (refusal.Limit limit counted) = ⊥
 IsFixed _ = Unit {0}
 
+-- the refusals that come after the whole input was read; want of memory may come before
+abbrev pub ComesLate : Refusal → Type 0
+ComesLate Usage = ⊥
+ComesLate (refusal.Limit limit counted) = ⊥
+ComesLate Memory = ⊥
+ComesLate ReadFault = ⊥
+ComesLate _ = Unit {0}
+
 -- the refusals of the bytes that were read: the words and the outside are in order
 abbrev pub IsInside : Refusal → Type 0
 IsInside Usage = ⊥

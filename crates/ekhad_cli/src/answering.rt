@@ -10,6 +10,7 @@ ghost use Rattle.steps.specs.Answers.{HasCause};
 ghost use Rattle.steps.specs.TermFaults.{term_cause};
 ghost use Rattle.ekhad_cli.specs.Refusals.{IsInside};
 ghost use Rattle.ekhad_cli.specs.Commands.{most_bytes, IsAnswerText, IsCause};
+ghost use Rattle.ekhad_cli.specs.Converted.{refusal_of_text, refusal_of_term};
 
 use crate::gosper::gosper;
 use crate::output::Output;
@@ -28,6 +29,7 @@ use term_walk::classify;
 fn refusal_of(fault: TextFault) -> Refusal
     ensures cause { (text : List ℕ) → length text ≤ most_bytes Command.Gosper → HasFault a_term text fault → IsCause Command.Gosper text result }
     ensures inside { IsInside result }
+    ensures exact { result ≡ refusal_of_text fault }
 {
     match fault {
         TextFault::Unexpected { at } => syntax(SyntaxKind::Unexpected, at),
@@ -46,6 +48,7 @@ fn refusal_of_class(fault: TermFault) -> Refusal
     ensures cause { (text : List ℕ) (tree : Tree) → length text ≤ most_bytes Command.Gosper → HasTrees a_term text (tree ∷ [])
         → HasCause (class_of tree) (term_cause fault) → IsCause Command.Gosper text result }
     ensures inside { IsInside result }
+    ensures exact { result ≡ refusal_of_term fault }
 {
     match fault {
         TermFault::Improper { reason, at } => Refusal::Improper { reason, at },

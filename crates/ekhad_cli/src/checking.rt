@@ -3,6 +3,7 @@
 ghost use Rattle.std.specs.Prelude.{◌≡◌, ◌≤◌, length, IfOk, IfErr};
 ghost use Rattle.ekhad_cli.specs.Refusals.{IsInside};
 ghost use Rattle.ekhad_cli.specs.Commands.{reason_word, verdict_text, verdict_status, most_bytes, IsVerdictText, IsCause};
+ghost use Rattle.ekhad_cli.specs.Converted.{refusal_of_document, IsRefusalOfClaim};
 
 use crate::output::Output;
 use crate::refusal::Refusal;
@@ -50,6 +51,30 @@ fn output_of(alloc: Global, verdict: &Verdict) -> Result<Output, AllocError>
     }
 }
 
+// How a text is refused that is no document.
+fn refusal_of(fault: DocFault) -> Refusal
+    ensures exact { result ≡ refusal_of_document fault }
+{
+    match fault {
+        DocFault::Line { at } => Refusal::Line { at },
+        DocFault::Memory => Refusal::Memory,
+    }
+}
+
+// How a document is refused whose claim isn't checked.
+fn refusal_of_claim(fault: EngineFault) -> Refusal
+    requires known { (refusal : Refusal) × IsRefusalOfClaim fault refusal }
+    ensures exact { IsRefusalOfClaim fault result }
+{
+    match fault {
+        EngineFault::TooLarge {
+            place: Place::Claim(claim),
+        } => Refusal::ClaimTooLarge { claim },
+        EngineFault::TooLarge { .. } | EngineFault::Limit { .. } => unreachable!(),
+        EngineFault::Memory => Refusal::Memory,
+    }
+}
+
 /// The verdict on a document, which is read as a text.
 pub(crate) fn check(alloc: Global, text: &[u8]) -> Result<Output, Refusal>
     ensures output { IfOk result (λ output. IsVerdictText text.now output.status output.text.items) }
@@ -58,18 +83,11 @@ pub(crate) fn check(alloc: Global, text: &[u8]) -> Result<Output, Refusal>
 {
     let doc = match read_poly_doc(alloc, text) {
         Ok(doc) => doc,
-        Err(DocFault::Line { at }) => return Err(Refusal::Line { at }),
-        Err(DocFault::Memory) => return Err(Refusal::Memory),
+        Err(fault) => return Err(refusal_of(fault)),
     };
     let verdict = match check_poly(alloc, &doc) {
         Ok(verdict) => verdict,
-        Err(
-            EngineFault::TooLarge {
-                place: Place::Claim(claim),
-            },
-        ) => return Err(Refusal::ClaimTooLarge { claim }),
-        Err(EngineFault::TooLarge { .. } | EngineFault::Limit { .. }) => unreachable!(),
-        Err(EngineFault::Memory) => return Err(Refusal::Memory),
+        Err(fault) => return Err(refusal_of_claim(fault)),
     };
     match output_of(alloc, &verdict) {
         Ok(output) => Ok(output),

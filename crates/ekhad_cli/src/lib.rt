@@ -27,7 +27,7 @@ mod test_runs;
 mod tests;
 mod words;
 
-pub use laws::answers_are_accepted;
+pub use laws::{answerable_texts_are_answered, answers_are_accepted};
 pub use lines::refuse;
 pub use program::run;
 pub use refusal::{Refusal, RunLimit, SyntaxKind};

@@ -114,9 +114,9 @@ fn say<E: Sink>(line: &str, err: &mut E)
 
 /// Ends a run that gives no answer: writes the line of the refusal to `err`, whose own faults change nothing.
 ///
-/// Where there is no memory for the line, that is what is said, and the run ends with `Memory`.
+/// Where there is no memory for the line, that is what is said, and the run ends with `Memory`; a line without a number takes none.
 pub fn refuse<E: Sink>(alloc: Global, refusal: Refusal, err: &mut E) -> Status
-    ensures said { (said : Refusal) × ((said ≡ refusal) ⊎ (said ≡ Refusal.Memory)) × (result ≡ status_of said)
+    ensures said { (said : Refusal) × ((said ≡ refusal) ⊎ ((said ≡ Refusal.Memory) × (¬ IsFixed refusal))) × (result ≡ status_of said)
         × GrewByLine (E.written err.old) (E.written err.new) (line_text said) (Rose (E.faults err.old) (E.faults err.new)) }
     ensures fixed { IsFixed refusal → result ≡ status_of refusal }
 {

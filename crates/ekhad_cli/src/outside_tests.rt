@@ -96,6 +96,9 @@ fn the_most_bytes_of_an_input(rt: HostRuntime) -> Result<(), AllocError> {
     text.push(b'k')?;
     let line = "ekhad: limit: input bytes 65537\n";
     assert!(rt; refuses(&rt, "gosper", &text, Status::Limit, line, &WHOLE));
+    let line = "ekhad: limit: document bytes 16777217\n";
+    let text = vec![in rt.alloc(); b' '; 16_777_217]?;
+    assert!(rt; refuses(&rt, "check", &text, Status::Limit, line, &WHOLE));
     Ok(())
 }
 

@@ -1,12 +1,13 @@
 //! A run of the program: its words, its input and its two outputs.
 
 ghost use Rattle.std.specs.Prelude.{◌≡◌, ◌≢◌, ◌↔◌, ◌≤◌, ◌<◌, ℕ, suc, List, length, map, string_bytes, Some, Err, IfOk, IfErr, IfSome, OnOk};
-ghost use Rattle.std.specs.Io.KnownBytes.{IsAtEnd, Keeps};
+ghost use Rattle.std.specs.Io.KnownBytes.{IsAtEnd};
 ghost use Rattle.ek_io.specs.Faults.{Rose};
 ghost use Rattle.ek_io.specs.Transfer.{TakesBytes};
-ghost use Rattle.ekhad_cli.specs.Refusals.{line_text, status_of, GrewByLine};
+ghost use Rattle.ekhad_cli.specs.Refusals.{line_text, status_of, ComesLate, GrewByLine};
 ghost use Rattle.ekhad_cli.specs.Commands.{AreWordsOf, most_bytes, byte_limit, IsOutput, IsCause};
-ghost use Rattle.ekhad_cli.specs.Run.{IsAnswered, GrewByOutput, GrewByFront, IsCaused, TakesTooMany};
+ghost use Rattle.ekhad_cli.specs.Converted.{refusal_of_end};
+ghost use Rattle.ekhad_cli.specs.Run.{IsAnswered, HasReadAll, AreHeld, GrewByOutput, GrewByFront, IsCaused, TakesTooMany};
 
 use crate::answering::answer_term;
 use crate::checking::check;
@@ -39,12 +40,27 @@ fn byte_limit_of(command: Command) -> RunLimit
     }
 }
 
+// How a source is refused that isn't read to its end.
+fn refusal_of(command: Command, end: ReadEnd) -> Refusal
+    ensures exact { result ≡ refusal_of_end command end }
+{
+    match end {
+        ReadEnd::Fault => Refusal::ReadFault,
+        ReadEnd::Limit(counted) => Refusal::Limit {
+            limit: byte_limit_of(command),
+            counted,
+        },
+        ReadEnd::Memory => Refusal::Memory,
+    }
+}
+
 // The bytes of a source, up to its end.
 fn bytes_of<S: Source>(alloc: Global, command: Command, input: &mut S) -> Result<Vec<u8>, Refusal>
-    ensures whole { IfOk result (λ bytes. IfSome (S.left input.old) (λ held. bytes.items ≡ held)) }
+    ensures whole { IfOk result (λ bytes. AreHeld (S.left input.old) bytes.items) }
     ensures end { OnOk result (IsAtEnd (S.left input.new)) }
     ensures within { IfOk result (λ bytes. length bytes.items ≤ most_bytes command) }
-    ensures cause { IfErr result (λ refusal. IfSome (S.left input.old) (λ held. IsCause command held refusal)) }
+    ensures cause { IfErr result (λ refusal. (bytes : List ℕ) × AreHeld (S.left input.old) bytes × IsCause command bytes refusal) }
+    ensures early { IfErr result (λ refusal. ¬ ComesLate refusal) }
     ensures limit_taken { (limit : RunLimit) (counted : ℕ) → result ≡ Err (Refusal.Limit limit counted)
         → TakesBytes (S.left input.old) (S.left input.new) (suc (most_bytes command)) }
     ensures read_fault { result ≡ Err Refusal.ReadFault → Rose (S.faults input.old) (S.faults input.new) }
@@ -53,21 +69,17 @@ fn bytes_of<S: Source>(alloc: Global, command: Command, input: &mut S) -> Result
 {
     match read_all(alloc, input, most_bytes_of(command)) {
         Ok(bytes) => Ok(bytes),
-        Err(ReadEnd::Fault) => Err(Refusal::ReadFault),
-        Err(ReadEnd::Limit(counted)) => Err(Refusal::Limit {
-            limit: byte_limit_of(command),
-            counted,
-        }),
-        Err(ReadEnd::Memory) => Err(Refusal::Memory),
+        Err(end) => Err(refusal_of(command, end)),
     }
 }
 
 // What the command of the words writes of the bytes of a source, which is read to its end.
 fn answer<S: Source>(alloc: Global, words: &[String], input: &mut S) -> Result<Output, Refusal>
-    ensures output { IfOk result (λ output. (command : Command) × AreWordsOf command (map string_bytes words.now)
-        × IfSome (S.left input.old) (λ bytes. (length bytes ≤ most_bytes command) × IsOutput command bytes output.status output.text.items)) }
+    ensures output { IfOk result (λ output. (command : Command) × (bytes : List ℕ) × AreWordsOf command (map string_bytes words.now)
+        × AreHeld (S.left input.old) bytes × (length bytes ≤ most_bytes command) × IsOutput command bytes output.status output.text.items) }
     ensures answered { IfOk result (λ output. IsAnswered output.status) }
     ensures end { OnOk result (IsAtEnd (S.left input.new)) }
+    ensures late { IfErr result (λ refusal. ComesLate refusal → IsAtEnd (S.left input.new)) }
     ensures cause { IfErr result (IsCaused (map string_bytes words.now) (S.left input.old)) }
     ensures usage { result ≡ Err Refusal.Usage ↔ ((command : Command) → ¬ AreWordsOf command (map string_bytes words.now)) }
     ensures unread { result ≡ Err Refusal.Usage → input.new ≡ input.old }
@@ -89,8 +101,8 @@ fn answer<S: Source>(alloc: Global, words: &[String], input: &mut S) -> Result<O
 /// Runs the program on its words (those after its name), its input and its two outputs.
 ///
 /// The word `gosper` reads a term and writes its document to `out`; `check` reads a document and writes the verdict on it. A refusal
-/// writes nothing to `out` and a line to `err`. The clauses on bytes speak of a source and of sinks that tell their bytes; those on
-/// faults hold for every one.
+/// writes nothing to `out` and a line to `err`. Where a source or a sink tells its bytes, the clauses speak of them; what they say of
+/// the object itself, and of its faults, holds for every one.
 pub fn run<S: Source, O: Sink, E: Sink>(
     alloc: Global,
     words: &[String],
@@ -98,20 +110,22 @@ pub fn run<S: Source, O: Sink, E: Sink>(
     out: &mut O,
     err: &mut E,
 ) -> Status
-    // An answer: `out` grew by what the command writes of the bytes that the source held, all of which were read.
-    ensures written { IsAnswered result → (command : Command) × AreWordsOf command (map string_bytes words.now)
-        × IfSome (S.left input.old) (λ bytes. GrewByOutput command bytes result (O.written out.old) (O.written out.new)) }
-    ensures end { IsAnswered result → IsAtEnd (S.left input.new) }
-    ensures no_line { IsAnswered result → Keeps (E.written err.old) (E.written err.new) }
+    // An answer: `out` grew by what the command writes of the bytes that the source held, and `err` is as it was.
+    ensures written { IsAnswered result → (command : Command) × (bytes : List ℕ) × AreWordsOf command (map string_bytes words.now)
+        × AreHeld (S.left input.old) bytes × GrewByOutput command bytes result (O.written out.old) (O.written out.new) }
+    ensures no_line { IsAnswered result → err.new ≡ err.old }
+
+    // The whole input was read then, and wherever it is the text or the output that is at fault.
+    ensures end { HasReadAll result → IsAtEnd (S.left input.new) }
 
     // A refusal leaves `out` as it was; a fault in writing leaves a front of such a text.
-    ensures quiet { ¬ IsAnswered result → result ≢ Status.WriteFault → Keeps (O.written out.old) (O.written out.new) }
-    ensures front { result ≡ Status.WriteFault → (command : Command) × AreWordsOf command (map string_bytes words.now)
-        × IfSome (S.left input.old) (λ bytes. GrewByFront command bytes (O.written out.old) (O.written out.new)) }
+    ensures quiet { ¬ IsAnswered result → result ≢ Status.WriteFault → out.new ≡ out.old }
+    ensures front { result ≡ Status.WriteFault → (command : Command) × (bytes : List ℕ) × AreWordsOf command (map string_bytes words.now)
+        × AreHeld (S.left input.old) bytes × GrewByFront command bytes (O.written out.old) (O.written out.new) }
 
     // It has its cause, and `err` grew by its one line, or by a front of it where the count of faults of `err` rose.
     ensures line { ¬ IsAnswered result → (refusal : Refusal) × (result ≡ status_of refusal)
-        × IsCaused (map string_bytes words.now) (S.left input.old) refusal
+        × IsCaused (map string_bytes words.now) (S.left input.old) refusal × (ComesLate refusal → IsAtEnd (S.left input.new))
         × GrewByLine (E.written err.old) (E.written err.new) (line_text refusal) (Rose (E.faults err.old) (E.faults err.new)) }
 
     // What else is known of some of them. Want of memory may come in place of any but Usage.

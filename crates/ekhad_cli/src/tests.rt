@@ -2,6 +2,7 @@
 
 use crate::Status;
 use crate::test_runs::{WHOLE, document, outcome_of, refuses, writes};
+use std::alloc::AllocError;
 
 #[test]
 fn documents_of_polynomials(rt: HostRuntime) {
@@ -9,6 +10,7 @@ fn documents_of_polynomials(rt: HostRuntime) {
     let rows = [
         ("k^2", "k^2", "1", "6", "2*k^3-3*k^2+k"),
         ("-3*k", "k", "-3", "2", "k^2-k"),
+        ("7*k", "k", "7", "2", "k^2-k"),
         (" k ^ 2 ", "k^2", "1", "6", "2*k^3-3*k^2+k"),
         ("k+1", "k+1", "1", "2", "k^2+k"),
         ("(k)+1", "k+1", "1", "2", "k^2+k"),
@@ -42,6 +44,7 @@ fn texts_that_are_no_terms_are_refused(rt: HostRuntime) {
     let rows = [
         ("", Status::Syntax, "ekhad: syntax: empty input\n"),
         ("1k", Status::Syntax, "ekhad: syntax: unexpected at 1\n"),
+        ("k!!", Status::Syntax, "ekhad: syntax: unexpected at 2\n"),
         ("2*x", Status::Syntax, "ekhad: syntax: unknown name at 2\n"),
         (
             "binomial(n,k",
@@ -62,6 +65,11 @@ fn texts_that_are_no_terms_are_refused(rt: HostRuntime) {
             "170141183460469231731687303715884105728",
             Status::TooLarge,
             "ekhad: too large: literal at 0\n",
+        ),
+        (
+            "170141183460469231731687303715884105727*k+k",
+            Status::TooLarge,
+            "ekhad: too large: term at 41\n",
         ),
     ];
     for (text, status, line) in rows {
@@ -85,16 +93,13 @@ fn terms_that_are_not_answered(rt: HostRuntime) {
         ("1000000+k", Status::Limit, "ekhad: limit: unbuilt 1\n"),
         ("0", Status::Improper, "ekhad: improper: reason 7 at 0\n"),
         (
-            "(n*k)!",
-            Status::Improper,
-            "ekhad: improper: reason 1 at 2\n",
-        ),
-        (
             "(k+1000001)!",
             Status::Limit,
             "ekhad: limit: offset 1000001\n",
         ),
         ("(9*n)!", Status::Limit, "ekhad: limit: slope 9\n"),
+        ("(9*k)!", Status::Limit, "ekhad: limit: slope 9\n"),
+        ("k^13", Status::Limit, "ekhad: limit: exponent 13\n"),
         ("n^(k^13)", Status::Limit, "ekhad: limit: exponent 13\n"),
         (
             "k!^12*n!^12/(k+1)",
@@ -104,6 +109,24 @@ fn terms_that_are_not_answered(rt: HostRuntime) {
     ];
     for (text, status, line) in rows {
         let refused = refuses(&rt, "gosper", text.as_bytes(), status, line, &WHOLE);
+        assert!(rt; refused, "{text}");
+    }
+}
+
+#[test]
+fn terms_that_are_not_proper(rt: HostRuntime) {
+    let rows = [
+        ("(n*k)!", "ekhad: improper: reason 1 at 2\n"),
+        ("(0*n-1)!", "ekhad: improper: reason 2 at 4\n"),
+        ("1/(k^2+1)", "ekhad: improper: reason 3 at 6\n"),
+        ("k/0", "ekhad: improper: reason 3 at 2\n"),
+        ("n^k", "ekhad: improper: reason 4 at 1\n"),
+        ("2^(n*k)", "ekhad: improper: reason 5 at 4\n"),
+        ("n!+k!", "ekhad: improper: reason 6 at 2\n"),
+        ("k*0", "ekhad: improper: reason 7 at 2\n"),
+    ];
+    for (text, line) in rows {
+        let refused = refuses(&rt, "gosper", text.as_bytes(), Status::Improper, line, &WHOLE);
         assert!(rt; refused, "{text}");
     }
 }
@@ -167,4 +190,27 @@ fn texts_that_are_no_document(rt: HostRuntime) {
         };
         assert!(rt; refused, "{line}");
     }
+}
+
+// The document of a polynomial of degree 4, and one of more than 2,000 bytes whose Y is no sum of it.
+#[test]
+fn longer_documents(rt: HostRuntime) -> Result<(), AllocError> {
+    let alloc = rt.alloc();
+    let y = "-6*k^5+15*k^4-10*k^3+30*k^2-239*k";
+    let text = document(alloc, "-k^4+2*k-7", ["1", "1"], "30", y)?;
+    let checked = outcome_of(alloc, "check", text.as_bytes(), &WHOLE)?;
+    assert!(rt; checked.status == Status::Found && checked.out.bytes() == b"accepted\n".as_slice());
+    let mut long = String::new(alloc);
+    let mut coefficient: u128 = 3;
+    for passed in 0..99u32 {
+        let power = 100 - passed;
+        long.push_str(&format!(in alloc; "{coefficient}*k^{power}+")?)?;
+        coefficient = coefficient.saturating_mul(2);
+    }
+    long.push_str("k")?;
+    let text = document(alloc, "-k^4+2*k-7", ["1", "1"], "30", &long)?;
+    let checked = outcome_of(alloc, "check", text.as_bytes(), &WHOLE)?;
+    assert!(rt; text.len() > 2_000 && checked.status == Status::Empty);
+    assert!(rt; checked.out.bytes() == b"rejected 0 equation\n".as_slice());
+    Ok(())
 }
