@@ -1,6 +1,6 @@
 -- What the faults of a document and of its claim become has its cause.
 use Rattle.std.proofs.Common.{◌≡◌, ◌≢◌, ◌≤◌, ℕ, List, length, refl, sym, subst}
-use Rattle.term_faults.specs.declared.limits.LimitName.{LimitName}
+use Rattle.steps.specs.declared.limits.LimitName.{LimitName}
 use Rattle.cert_text.specs.declared.faults.DocFault.{DocFault}
 use Rattle.cert_text.specs.declared.faults.DocFault.TheVariants as document
 use Rattle.cert_text.specs.declared.faults.Place.{Place}

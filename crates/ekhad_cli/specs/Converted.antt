@@ -4,8 +4,8 @@ use Rattle.ek_io.specs.declared.transfer.ReadEnd.{ReadEnd}
 use Rattle.ek_io.specs.declared.transfer.ReadEnd.TheVariants as read
 use Rattle.term_text.specs.declared.fault.TextFault.{TextFault}
 use Rattle.term_text.specs.declared.fault.TextFault.TheVariants as text
-use Rattle.term_faults.specs.declared.faults.TermFault.{TermFault}
-use Rattle.term_faults.specs.declared.faults.TermFault.TheVariants as term
+use Rattle.steps.specs.declared.faults.TermFault.{TermFault}
+use Rattle.steps.specs.declared.faults.TermFault.TheVariants as term
 use Rattle.cert_text.specs.declared.faults.DocFault.{DocFault}
 use Rattle.cert_text.specs.declared.faults.DocFault.TheVariants as document
 use Rattle.cert_text.specs.declared.faults.EngineFault.{EngineFault}
