@@ -6,7 +6,7 @@ use Rattle.grammar.specs.Several.{a_term}
 use Rattle.grammar.specs.Reading.{HasTrees, Fault, IsFirstFault}
 use Rattle.grammar.proofs.OneOutcome.{one_contents, contents_or_fault}
 use Rattle.term_classes.specs.Refusals as classes
-use Rattle.term_classes.specs.Steps.{IsTooLargeAt}
+use Rattle.steps.specs.Steps.{IsTooLargeAt}
 use Rattle.term_classes.specs.Walk.{class_of}
 use Rattle.cert_text.specs.Readable.{Contents, IsTextOf}
 use Rattle.cert_text.proofs.OneDocument.{one_document}

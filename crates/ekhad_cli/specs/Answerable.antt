@@ -4,7 +4,7 @@ use Rattle.hypergeometric.specs.ProperTerm.{ProperTerm}
 use Rattle.hypergeometric.specs.Tree.{Tree}
 use Rattle.grammar.specs.Several.{a_term}
 use Rattle.grammar.specs.Reading.{HasTrees}
-use Rattle.term_classes.specs.Steps.{IsTooLargeAt}
+use Rattle.steps.specs.Steps.{IsTooLargeAt}
 use Rattle.term_classes.specs.Walk.{class_of}
 use Rattle.cert_text.specs.Readable.{Contents, IsTextOf}
 use Rattle.cert_checker.specs.Checks.{AreInBounds}
