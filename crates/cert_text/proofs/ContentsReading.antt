@@ -3,9 +3,9 @@ use Rattle.std.specs.Prelude.{◌≡◌, ℕ, ℤ, Bool, codes, List, ◌∷◌}
 use Rattle.std.specs.Fmt.{signed_decimal}
 use Rattle.std.proofs.Common.{refl, ap, sym, subst, ◌∙◌}
 use Rattle.ring_laws.specs.Meaning.{Meaning}
+use Rattle.hypergeometric.specs.TermFacts.{IsNumber, IsPolynomial}
 use Rattle.document_text.specs.Spelling.{polynomial_text}
 use Rattle.document_text.specs.Document.{document_text}
-use Rattle.hypergeometric.specs.TermFacts.{IsNumber, IsPolynomial}
 use Rattle.document_text.proofs.Cutting.{Only, only_more}
 use Rattle.document_text.proofs.Numerals.{signed_bytes, only_signed_decimal}
 use Rattle.document_text.proofs.MonomialBytes.{polynomial_bytes}
@@ -15,8 +15,7 @@ use Rattle.cert_text.specs.Readable.{Contents, document_of, AreReadable, SameLin
 use Rattle.cert_text.specs.Reading.{outside}
 use Rattle.cert_text.proofs.LiftedPolynomials.{in_k_polynomial}
 use Rattle.cert_text.proofs.Assembled.{pieces, assembled}
-use Rattle.cert_text.proofs.FieldsOfText.{term_word, scale_word, multiplier_word, carrier_word, y_word, Fields, AreFields, Agrees}
-use Rattle.cert_text.proofs.FieldsOfText.{behind_y, behind_carrier, behind_multiplier, behind_scale, behind_poly}
+use Rattle.cert_text.proofs.FieldsOfText.{term_word, scale_word, multiplier_word, carrier_word, y_word, Fields, AreFields, Agrees, behind_y, behind_carrier, behind_multiplier, behind_scale, behind_poly}
 use Rattle.cert_text.proofs.SharedLines.{in_line, field_shared}
 
 -- polynomials and numbers have no bytes but their own

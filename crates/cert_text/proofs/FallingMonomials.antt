@@ -1,13 +1,12 @@
 -- The monomials of a polynomial in k have falling powers, and its coefficients are theirs.
-use Rattle.std.specs.Prelude.{◌≡◌, ◌≢◌, ℕ, zero, suc, ◌+◌, ◌<◌, ◌≤◌, Bool, true}
-use Rattle.std.specs.Prelude.{false, if◌then◌else◌, nat_eq, ℤ, pos, negsuc, List, [], ◌∷◌, length, map}
+use Rattle.std.specs.Prelude.{◌≡◌, ◌≢◌, ℕ, zero, suc, ◌+◌, ◌<◌, ◌≤◌, Bool, true, false, if◌then◌else◌, nat_eq, ℤ, pos, negsuc, List, [], ◌∷◌, length, map}
 use Rattle.std.specs.Fmt.{digits}
 use Rattle.std.proofs.Common.{refl, ap, ◌∙◌, arith, lit<}
 use Rattle.ring_laws.specs.Meaning.{Meaning, items, parted-joined}
 use Rattle.ring_laws.specs.Wholes.{number_of}
 use Rattle.poly_laws.specs.Values.{level}
-use Rattle.document_text.specs.Spelling.{Monomial, monomial_before, monomials_in_n, monomials_in_k, monomials_text, polynomial_text}
 use Rattle.hypergeometric.specs.TermFacts.{IsNumber, IsPolynomial}
+use Rattle.document_text.specs.Spelling.{Monomial, monomial_before, monomials_in_n, monomials_in_k, monomials_text, polynomial_text}
 use Rattle.document_text.proofs.Totals.{number_at}
 use Rattle.cert_text.specs.PolynomialDocument.{constant_in_n, in_k}
 use Rattle.cert_text.specs.Printing.{monomial_in_k}

@@ -1,11 +1,10 @@
 -- The words of the contracts of the reader's own functions.
-use Rattle.std.specs.Prelude.{◌≡◌, ◌<◌, ◌⊎◌, codes, ℕ, zero, suc, Bool, true, false, not}
-use Rattle.std.specs.Prelude.{if◌then◌else◌, nat_eq, IsTrue, ℤ, pos, neg_ℤ, List, [], ◌∷◌, ◌++◌, flat_map}
+use Rattle.std.specs.Prelude.{◌≡◌, ◌<◌, ◌⊎◌, codes, ℕ, zero, suc, Bool, true, false, not, if◌then◌else◌, nat_eq, IsTrue, ℤ, pos, neg_ℤ, List, [], ◌∷◌, ◌++◌, flat_map}
 use Rattle.std.specs.List.{list_any}
 use Rattle.std.specs.Fmt.{decimal}
 use Rattle.ring_laws.specs.declared.wholes.Whole.{Whole}
-use Rattle.document_text.specs.Spelling.{Monomial, later_text}
 use Rattle.hypergeometric.specs.TermFacts.{IsNumber}
+use Rattle.document_text.specs.Spelling.{Monomial, later_text}
 use Rattle.document_text.proofs.Cutting.{Only, Stops}
 use Rattle.cert_text.specs.Printing.{monomial_in_k, placed_text}
 

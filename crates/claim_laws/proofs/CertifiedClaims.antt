@@ -8,14 +8,14 @@ use Rattle.hypergeometric.specs.ProperTerm.{ProperTerm, IsNonzero, HasFractions}
 use Rattle.hypergeometric.specs.TermFacts.{IsLowest, IsProper}
 use Rattle.hypergeometric.specs.Claim.{Claim, left_side, shifted_sum, AllDefined}
 use Rattle.hypergeometric.specs.Telescopes.{Telescopes, TelescopesAtPoints, HasRatio}
+use Rattle.hypergeometric.specs.TermValue.{HasValue}
 use Rattle.hypergeometric.proofs.RangeSums.{ranges_from_points}
-use Rattle.term_classes.specs.ClassValues.{HasValue}
 use Rattle.term_pieces.specs.Pieces.{Pieces, ArePiecesOf, top_at}
 use Rattle.term_pieces.specs.PieceValues.{top_value}
 use Rattle.term_pieces.proofs.Splits.{times_common}
+use Rattle.term_pieces.proofs.CarrierDefined.{carrier_fractions}
 use Rattle.claim_laws.specs.Identity.{sum_of_tops}
 use Rattle.claim_laws.specs.Certified.{HasPieces, IsCertified}
-use Rattle.term_pieces.proofs.CarrierDefined.{carrier_fractions}
 use Rattle.claim_laws.proofs.IdentityValues.{sum_of_multiples, tops_are, IdentityAt, identity_at}
 use Rattle.claim_laws.proofs.Multiples.{multiples_add_up, each_defined}
 use Rattle.claim_laws.proofs.SharedMultiples.{common, common_defined, term_multiple, carrier_here, carrier_next, difference_of_certificates, ratio_holds}

@@ -2,26 +2,26 @@
 use Rattle.std.proofs.Common.{◌≡◌, ℕ, suc, List, [], ◌∷◌, map, refl, ap, sym, ◌∙◌}
 use Rattle.std.proofs.Math.IntN.{pow}
 use Rattle.std.specs.Prelude.{ℤ, pos, negsuc, ◌+ℤ◌, ◌-ℤ◌, ◌*ℤ◌, neg_ℤ}
-use Rattle.ring_laws.specs.Meaning.{Meaning}
 use Rattle.ring_solver.proofs.Read.{ring_z, reading_z}
+use Rattle.ring_laws.specs.Meaning.{Meaning}
 use Rattle.poly_laws.specs.Values.{value_at, level}
 use Rattle.poly_laws.proofs.Keeps.{of_list, value_at_keeps}
 use Rattle.poly_laws.proofs.ShiftLaws.{value_at_shift}
+use Rattle.division_laws.specs.Polynomials.{at_previous, constant}
+use Rattle.key_laws.proofs.CertificatePoints.{certificate_at}
 use Rattle.hypergeometric.specs.Point.{Point, point, values, values_in_n, later_k}
 use Rattle.hypergeometric.specs.LinearForm.{Factor, FactorList, forms_value, factor_list_value}
 use Rattle.hypergeometric.specs.ProperTerm.{poly_value, value_in_n}
 use Rattle.hypergeometric.specs.Claim.{Claim, poles_value}
-use Rattle.lin_form.specs.FactorLists.{factor_with}
-use Rattle.lin_form.specs.Products.{list_polynomial}
-use Rattle.lin_form.proofs.ListValues.{list_at}
+use Rattle.hypergeometric.specs.FactorLists.{factor_with}
+use Rattle.hypergeometric.specs.Products.{list_polynomial}
+use Rattle.hypergeometric.proofs.ListValues.{list_at}
 use Rattle.term_pieces.specs.Products.{at_later_k}
 use Rattle.term_pieces.specs.Pieces.{Top, Pieces}
 use Rattle.term_pieces.specs.PieceValues.{top_value}
-use Rattle.term_pieces.proofs.FormValues.{later_k_value}
-use Rattle.division_laws.specs.Polynomials.{at_previous, constant}
-use Rattle.key_laws.proofs.CertificatePoints.{certificate_at}
-use Rattle.claim_laws.specs.Identity.{poly_sum, poly_difference, poly_product, list_at_k_plus, sum_of_tops, poles_polynomial, HasIdentity}
 use Rattle.term_pieces.specs.Tops.{top_polynomial}
+use Rattle.term_pieces.proofs.FormValues.{later_k_value}
+use Rattle.claim_laws.specs.Identity.{poly_sum, poly_difference, poly_product, list_at_k_plus, sum_of_tops, poles_polynomial, HasIdentity}
 
 one_times : (x : ℤ) → pos 1 *ℤ x ≡ x
 one_times x = ring_z (x ∷ []) (search reading_z depth 40 fits 20000) refl

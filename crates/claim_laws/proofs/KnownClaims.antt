@@ -8,13 +8,13 @@ use Rattle.hypergeometric.specs.Fraction.{Fraction, of_whole, fraction_differenc
 use Rattle.hypergeometric.specs.LinearForm.{LinearForm, Factor, FactorList}
 use Rattle.hypergeometric.specs.ProperTerm.{ProperTerm, proper_value}
 use Rattle.hypergeometric.specs.Claim.{Claim, certificate, left_side}
-use Rattle.lin_form.specs.FactorLists.{factor_with}
-use Rattle.term_classes.specs.Forms.{with_numbers}
+use Rattle.hypergeometric.specs.FactorLists.{factor_with}
+use Rattle.hypergeometric.specs.Forms.{form_with}
 use Rattle.term_pieces.specs.Pieces.{Top, Pieces, carrier_of}
 use Rattle.claim_laws.specs.Identity.{sum_of_tops, list_at_k_plus, HasIdentity}
 
 abbrev form_k : LinearForm
-form_k = with_numbers (pos 0) (pos 1) (pos 0)
+form_k = form_with (pos 0) (pos 1) (pos 0)
 
 abbrev one : Meaning
 one = listed (listed (number (pos 1) ∷ []) ∷ [])
@@ -26,8 +26,8 @@ binomial = record {
   scale = of_whole (pos 1);
   n_base = of_whole (pos 1);
   k_base = of_whole (pos 1);
-  up = factor_with (with_numbers (pos 1) (pos 0) (pos 0)) 1 ∷ [];
-  down = factor_with form_k 1 ∷ factor_with (with_numbers (pos 1) (negsuc 0) (pos 0)) 1 ∷ [];
+  up = factor_with (form_with (pos 1) (pos 0) (pos 0)) 1 ∷ [];
+  down = factor_with form_k 1 ∷ factor_with (form_with (pos 1) (negsuc 0) (pos 0)) 1 ∷ [];
   over = [];
   guard = [];
 }
@@ -37,19 +37,19 @@ list_with scale factor = record { scale = scale; factors = factor ∷ [] }
 
 -- k - n - 1
 abbrev falling : Factor
-falling = factor_with (with_numbers (negsuc 0) (pos 1) (negsuc 0)) 1
+falling = factor_with (form_with (negsuc 0) (pos 1) (negsuc 0)) 1
 
 -- p_0 = n - k + 1 and p_1 = n + 1
 abbrev top : ℕ → Top
 top zero = record { poly = one; factors = list_with (negsuc 0) falling }
-top (suc j) = record { poly = one; factors = list_with (pos 1) (factor_with (with_numbers (pos 1) (pos 0) (pos 1)) 1) }
+top (suc j) = record { poly = one; factors = list_with (pos 1) (factor_with (form_with (pos 1) (pos 0) (pos 1)) 1) }
 
 -- q0 = n - k + 1 and r0 = k + 1
 abbrev pieces : Pieces
 pieces = record {
   tops = top 0 ∷ top 1 ∷ [];
   q0 = list_with (negsuc 0) falling;
-  r0 = list_with (pos 1) (factor_with (with_numbers (pos 0) (pos 1) (pos 1)) 1);
+  r0 = list_with (pos 1) (factor_with (form_with (pos 0) (pos 1) (pos 1)) 1);
   carrier = carrier_of binomial 1;
 }
 
@@ -73,16 +73,16 @@ ratio = refl
 
 -- F = n!/(k! (n-k)! (k+1)), a claim with two multipliers and a pole: (-2n - 2) F(n,k) + (n + 2) F(n+1,k) with Y = -n - 1 over k
 abbrev divided : ProperTerm
-divided = record binomial { over = factor_with (with_numbers (pos 0) (pos 1) (pos 1)) 1 ∷ [] }
+divided = record binomial { over = factor_with (form_with (pos 0) (pos 1) (pos 1)) 1 ∷ [] }
 
 -- q0 = (n - k + 1)(k + 1) and r0 = (k + 1)(k + 2); the tops are those above
 abbrev divided_pieces : Pieces
 divided_pieces = record {
   tops = top 0 ∷ top 1 ∷ [];
-  q0 = record { scale = negsuc 0; factors = falling ∷ factor_with (with_numbers (pos 0) (pos 1) (pos 1)) 1 ∷ [] };
+  q0 = record { scale = negsuc 0; factors = falling ∷ factor_with (form_with (pos 0) (pos 1) (pos 1)) 1 ∷ [] };
   r0 = record {
     scale = pos 1;
-    factors = factor_with (with_numbers (pos 0) (pos 1) (pos 1)) 1 ∷ factor_with (with_numbers (pos 0) (pos 1) (pos 2)) 1 ∷ [];
+    factors = factor_with (form_with (pos 0) (pos 1) (pos 1)) 1 ∷ factor_with (form_with (pos 0) (pos 1) (pos 2)) 1 ∷ [];
   };
   carrier = carrier_of divided 1;
 }
@@ -93,7 +93,7 @@ over_a_pole = record {
   carrier = carrier_of divided 1;
   y = listed (listed (number (negsuc 0) ∷ number (negsuc 0) ∷ []) ∷ []);
   poles = factor_with form_k 1 ∷ [];
-  ratio_top = record { scale = pos 1; factors = factor_with form_k 1 ∷ factor_with (with_numbers (pos 0) (pos 1) (pos 1)) 1 ∷ [] };
+  ratio_top = record { scale = pos 1; factors = factor_with form_k 1 ∷ factor_with (form_with (pos 0) (pos 1) (pos 1)) 1 ∷ [] };
   ratio_bottom = list_with (negsuc 0) falling;
 }
 

@@ -1,21 +1,22 @@
 -- A term has its own value.
-use Rattle.std.proofs.Common.{◌≡◌, ℕ, zero, suc, ◌≤◌, List, [], ◌∷◌, refl, ap, sym, ◌∙◌, subst, arith}
+use Rattle.std.proofs.Common.{◌≡◌, ◌≤◌, List, [], ◌∷◌, refl, sym, ◌∙◌, subst, arith}
 use Rattle.std.proofs.lemmas.Int.{ints}
 use Rattle.std.specs.List.{AllByRecursion}
 use Rattle.std.specs.Prelude.{ℤ, pos, negsuc, ◌*ℤ◌, ◌≤ℤ◌}
 use Rattle.ring_solver.proofs.Read.{ring_z, reading_z}
 use Rattle.hypergeometric.specs.Point.{Point}
-use Rattle.hypergeometric.specs.Fraction.{IsDefined, ◌≈◌, of_whole, fraction_product, natural_power}
+use Rattle.hypergeometric.specs.Fraction.{IsDefined, ◌≈◌, of_whole, natural_power}
 use Rattle.hypergeometric.specs.LinearForm.{Factor, form_value, factorial, factorial_value, inverse_factorial_value, product_over}
 use Rattle.hypergeometric.specs.FormOrder.{IsFactor}
 use Rattle.hypergeometric.specs.ProperTerm.{ProperTerm, NoneNegative, IsDefinedAt, proper_value}
 use Rattle.hypergeometric.specs.TermFacts.{IsProper}
+use Rattle.hypergeometric.specs.TermValue.{HasValue}
 use Rattle.hypergeometric.proofs.Definedness.{proper_value_defined}
 use Rattle.hypergeometric.proofs.FractionLaws.{one_not_zero, equal_to_itself, equal_turned, equal_products}
-use Rattle.term_classes.specs.ClassValues.{HasValue}
-use Rattle.term_classes.proofs.DefinedValues.{left_defined, right_defined, base_defined, value_defined}
-use Rattle.term_classes.proofs.FractionPowers.{product_one}
-use Rattle.term_classes.proofs.SharedForms.{AllSome, all_more}
+use Rattle.hypergeometric.proofs.DefinedValues.{left_defined, right_defined, base_defined, value_defined}
+use Rattle.hypergeometric.proofs.FractionPowers.{product_one}
+use Rattle.hypergeometric.proofs.SharedForms.{AllSome, all_more}
+use Rattle.hypergeometric.proofs.PlainTerms.{natural_power_of_one}
 use Rattle.term_pieces.proofs.Factorials.{inverse_factorial_times}
 use Rattle.term_pieces.proofs.TimesPowers.{equal_powers}
 use Rattle.claim_laws.specs.OwnValues.{guard_value, own_value}
@@ -40,16 +41,12 @@ guard_natural : (z : ℤ) → IsDefined (guard_value z) → pos 0 ≤ℤ z
 guard_natural (pos m) d = omega (arith, ints)
 guard_natural (negsuc m) d = absurd (left_defined (factorial_value (negsuc m)) (inverse_factorial_value (negsuc m)) d refl)
 
-one_power : (e : ℕ) → natural_power (of_whole (pos 1)) e ≡ of_whole (pos 1)
-one_power zero = refl
-one_power (suc e) = ap (fraction_product (of_whole (pos 1))) (one_power e)
-
 module _ (p : Point) where
   guards_one : (xs : List Factor) → NoneNegative xs p → product_over guard_value xs p ≈ of_whole (pos 1)
   guards_one [] h = equal_to_itself (of_whole (pos 1)) one_not_zero
   guards_one (x ∷ xs) (h, hs) =
       equal_products
-      (subst (λ z. natural_power (guard_value (form_value x.form p)) x.power ≈ z) (one_power x.power)
+      (subst (λ z. natural_power (guard_value (form_value x.form p)) x.power ≈ z) (natural_power_of_one x.power)
       (equal_powers x.power (guard_one (form_value x.form p) h)))
       (guards_one xs hs)
 

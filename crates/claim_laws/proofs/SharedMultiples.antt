@@ -8,17 +8,17 @@ use Rattle.hypergeometric.specs.Fraction.{Fraction, IsDefined, ◌≈◌, of_who
 use Rattle.hypergeometric.specs.LinearForm.{factor_list_value}
 use Rattle.hypergeometric.specs.ProperTerm.{ProperTerm, HasFractions, IsDefinedAt, proper_value, poly_value}
 use Rattle.hypergeometric.specs.Claim.{Claim, poles_value, certificate}
+use Rattle.hypergeometric.specs.TermValue.{HasValue}
 use Rattle.hypergeometric.proofs.FractionLaws.{one_not_zero, equal_to_itself, equal_turned, equal_chain, equal_products}
-use Rattle.term_classes.specs.ClassValues.{HasValue}
-use Rattle.term_classes.proofs.FractionPowers.{fraction_with}
-use Rattle.term_classes.proofs.SameValues.{times_zero}
+use Rattle.hypergeometric.proofs.FractionPowers.{fraction_with}
+use Rattle.hypergeometric.proofs.SameValues.{times_zero}
 use Rattle.term_pieces.specs.Pieces.{Pieces, ArePiecesOf, top_at}
 use Rattle.term_pieces.specs.PieceValues.{top_value, ShareValue}
 use Rattle.term_pieces.proofs.SharedValues.{pieces_share}
 use Rattle.term_pieces.proofs.NumberSplits.{later_poly_value}
 use Rattle.term_pieces.proofs.Splits.{times_common}
-use Rattle.claim_laws.specs.Certified.{HasPieces}
 use Rattle.term_pieces.proofs.CarrierDefined.{defined_here, defined_next}
+use Rattle.claim_laws.specs.Certified.{HasPieces}
 use Rattle.claim_laws.proofs.IdentityValues.{IdentityAt, list_later}
 use Rattle.claim_laws.proofs.Multiples.{equal_differences, difference_of_multiples, ratio_of_multiples}
 

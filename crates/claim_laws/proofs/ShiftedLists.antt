@@ -8,9 +8,9 @@ use Rattle.poly_laws.proofs.ShiftLaws.{value_at_shift}
 use Rattle.poly_laws.proofs.StepMeanings.{shift_passes}
 use Rattle.hypergeometric.specs.Point.{point, later_k}
 use Rattle.hypergeometric.specs.LinearForm.{FactorList}
-use Rattle.lin_form.specs.Products.{list_polynomial}
-use Rattle.lin_form.proofs.FormPolynomials.{list_passes}
-use Rattle.lin_form.proofs.ListValues.{list_at}
+use Rattle.hypergeometric.specs.Products.{list_polynomial}
+use Rattle.hypergeometric.proofs.FormPolynomials.{list_passes}
+use Rattle.hypergeometric.proofs.ListValues.{list_at}
 use Rattle.claim_laws.specs.Identity.{list_at_k_plus, poly_at_k_plus}
 use Rattle.claim_laws.proofs.IdentityValues.{list_later}
 

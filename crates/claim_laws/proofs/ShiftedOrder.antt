@@ -4,12 +4,12 @@ use Rattle.std.proofs.lemmas.Int.{ints}
 use Rattle.std.specs.Int.{◌∣◌}
 use Rattle.std.specs.List.{AllByRecursion}
 use Rattle.std.specs.Prelude.{ℤ, pos, neg_ℤ, ◌+ℤ◌, ◌*ℤ◌, ◌<ℤ◌, unsigned_abs}
-use Rattle.ring_laws.proofs.DividedSums.{divides_sum, divides_product}
 use Rattle.ring_solver.proofs.Read.{ring_z, reading_z}
+use Rattle.ring_laws.proofs.DividedSums.{divides_sum, divides_product}
 use Rattle.hypergeometric.specs.LinearForm.{LinearForm, Factor, FactorList}
 use Rattle.hypergeometric.specs.FormOrder.{IsPrimitive, IsBefore, IsSorted}
-use Rattle.lin_form.specs.FactorLists.{factor_with}
-use Rattle.term_classes.proofs.SameValues.{zero_times}
+use Rattle.hypergeometric.specs.FactorLists.{factor_with}
+use Rattle.hypergeometric.proofs.SameValues.{zero_times}
 use Rattle.term_pieces.specs.Products.{at_later_k}
 use Rattle.claim_laws.specs.Identity.{list_at_k_plus}
 

@@ -5,15 +5,15 @@ use Rattle.std.specs.Prelude.{ℕ, suc, ℤ, pos, List, [], ◌∷◌, map}
 use Rattle.ring_laws.specs.Meaning.{Meaning}
 use Rattle.poly_laws.specs.Shift.{poly_shift}
 use Rattle.poly_laws.specs.Values.{level}
+use Rattle.division_laws.specs.Polynomials.{at_previous, constant}
+use Rattle.key_laws.specs.Certificates.{IsCertificate}
 use Rattle.hypergeometric.specs.LinearForm.{Factor, FactorList}
 use Rattle.hypergeometric.specs.Claim.{Claim}
-use Rattle.lin_form.specs.FactorLists.{factor_with}
-use Rattle.lin_form.specs.Products.{list_polynomial}
+use Rattle.hypergeometric.specs.FactorLists.{factor_with}
+use Rattle.hypergeometric.specs.Products.{list_polynomial}
 use Rattle.term_pieces.specs.Products.{at_later_k}
 use Rattle.term_pieces.specs.Pieces.{Top, Pieces}
 use Rattle.term_pieces.specs.Tops.{top_polynomial}
-use Rattle.division_laws.specs.Polynomials.{at_previous, constant}
-use Rattle.key_laws.specs.Certificates.{IsCertificate}
 
 -- p + q
 abbrev pub poly_sum : Meaning → Meaning → Meaning

@@ -1,12 +1,11 @@
 -- The laws of division, said of meanings.
 use Rattle.std.specs.Prelude.{◌≡◌, ℕ, ℤ, ◌+◌, ◌⊎◌, length}
 use Rattle.std.proofs.Common.{ap, sym, subst}
-use Rattle.ring_laws.specs.Algebra.{Ops, Algebra, Laws, same_passing}
+use Rattle.ring_laws.specs.Algebra.{Ops, Algebra, Laws, same_passing, within}
 use Rattle.ring_laws.specs.Division.{DomainLaws}
 use Rattle.poly_laws.specs.PolyAlgebra.{poly_ops, poly_algebra}
 use Rattle.poly_laws.specs.Shift.{poly_shift}
 use Rattle.poly_laws.proofs.Trimming.{beyond}
-use Rattle.ring_laws.specs.Algebra.{within}
 use Rattle.division_laws.specs.Polynomials.{Polynomial}
 use Rattle.division_laws.specs.Divisors.{HasDegree, Divides, IsPrime}
 use Rattle.division_laws.specs.Division.{Remainder, CommonDivisor}

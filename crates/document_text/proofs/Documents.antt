@@ -7,8 +7,7 @@ use Rattle.document_text.specs.TermText.{factors_text, factor_list_text, proper_
 use Rattle.document_text.specs.Document.{Found, Document, line, range_text, found_text, document_text}
 use Rattle.document_text.specs.WellFormed.{IsFound, IsWellFormed}
 use Rattle.document_text.proofs.ClaimParts.{matches_text, AreMultipliers, multipliers_text}
-use Rattle.document_text.proofs.Lines.{IsOrder, order_line, matches_line, list_line, multipliers_line, term_line}
-use Rattle.document_text.proofs.Lines.{polynomial_line, factors_line, range_line}
+use Rattle.document_text.proofs.Lines.{IsOrder, order_line, matches_line, list_line, multipliers_line, term_line, polynomial_line, factors_line, range_line}
 
 -- the lines of a found claim from one on
 abbrev from_range : Found → List ℕ

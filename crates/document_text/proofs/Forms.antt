@@ -5,10 +5,11 @@ use Rattle.std.specs.Str.{byte}
 use Rattle.std.proofs.Common.{refl, ap, arith}
 use Rattle.std.proofs.lemmas.Int.{ints}
 use Rattle.hypergeometric.specs.LinearForm.{LinearForm, Factor}
+use Rattle.hypergeometric.specs.FormOrder.{IsForm, IsFactor}
+use Rattle.hypergeometric.specs.Match.{Match}
 use Rattle.document_text.specs.Spelling.{◌⧺◌, Monomial, monomial_before}
 use Rattle.document_text.specs.TermText.{form_text, times_text, factor_text}
-use Rattle.document_text.specs.Document.{Match, match_text}
-use Rattle.hypergeometric.specs.FormOrder.{IsForm, IsFactor}
+use Rattle.document_text.specs.Document.{match_text}
 use Rattle.document_text.specs.WellFormed.{IsMatch}
 use Rattle.document_text.proofs.Cutting.{among, Only, Stops, only_append, only_more, cut}
 use Rattle.document_text.proofs.Numerals.{digit_bytes, only_decimal, decimal_before, times_bytes, only_times, times_determines, left_out_stops}

@@ -3,11 +3,11 @@ use Rattle.std.specs.Prelude.{◌≡◌, ℕ, ◌^◌, ◌<◌, List, [], ◌∷
 use Rattle.std.specs.List.{AllByRecursion}
 use Rattle.std.specs.Fmt.{decimal}
 use Rattle.std.proofs.Common.{refl, ap, sym, ◌∙◌, append_assoc}
+use Rattle.hypergeometric.specs.FormOrder.{IsFactor}
+use Rattle.hypergeometric.specs.TermFacts.{IsProper, IsPolynomial}
 use Rattle.document_text.specs.Spelling.{polynomial_text}
 use Rattle.document_text.specs.TermText.{factors_text, factor_list_text, proper_term_text}
 use Rattle.document_text.specs.Document.{line, range_text}
-use Rattle.hypergeometric.specs.FormOrder.{IsFactor}
-use Rattle.hypergeometric.specs.TermFacts.{IsProper, IsPolynomial}
 use Rattle.document_text.specs.WellFormed.{IsFactorList, IsMatch, IsRange}
 use Rattle.document_text.proofs.Cutting.{among}
 use Rattle.document_text.proofs.Numerals.{digit_bytes, only_decimal, decimal_determines}
@@ -15,8 +15,7 @@ use Rattle.document_text.proofs.MonomialBytes.{polynomial_bytes}
 use Rattle.document_text.proofs.Spells.{Spells, spells_more, spelled_behind}
 use Rattle.document_text.proofs.Factors.{field_bytes, list_bytes, factors_spell, factor_list_spells}
 use Rattle.document_text.proofs.Terms.{line_bytes, polynomial_spells, proper_term_spells}
-use Rattle.document_text.proofs.ClaimParts.{matches_text, matches_spell, range_bytes, range_spells}
-use Rattle.document_text.proofs.ClaimParts.{AreMultipliers, multipliers_text, multipliers_spell}
+use Rattle.document_text.proofs.ClaimParts.{matches_text, matches_spell, range_bytes, range_spells, AreMultipliers, multipliers_text, multipliers_spell}
 
 abbrev pub IsOrder : ℕ → Type 0
 IsOrder n = n < 2 ^ 127

@@ -1,6 +1,5 @@
 -- The text of a number, of a fraction and of a power determines it.
-use Rattle.std.specs.Prelude.{◌≡◌, ◌≢◌, ℕ, suc, ◌+◌, ◌%◌, ◌^◌, ◌<◌, Bool, true, false, if◌then◌else◌, nat_eq, ◌⊎◌}
-use Rattle.std.specs.Prelude.{ℤ, pos, negsuc, ◌<ℤ◌, unsigned_abs, codes, List, [], ◌∷◌, ◌++◌, length, drop}
+use Rattle.std.specs.Prelude.{◌≡◌, ◌≢◌, ℕ, suc, ◌+◌, ◌%◌, ◌^◌, ◌<◌, Bool, true, false, if◌then◌else◌, nat_eq, ◌⊎◌, ℤ, pos, negsuc, ◌<ℤ◌, unsigned_abs, codes, List, [], ◌∷◌, ◌++◌, length, drop}
 use Rattle.std.specs.List.{list_all}
 use Rattle.std.specs.Fmt.{decimal, signed_decimal}
 use Rattle.std.specs.Str.{byte}
@@ -10,9 +9,9 @@ use Rattle.std.proofs.lemmas.Bool.{eqb-true, agree_below_at, false≢true}
 use Rattle.std.proofs.lemmas.Int.{ints}
 use Rattle.std.proofs.lemmas.Fmt.{decimal_is_IsNumeral_wide, decimal_by_steps_wide}
 use Rattle.hypergeometric.specs.Fraction.{Fraction}
+use Rattle.hypergeometric.specs.TermFacts.{IsNumber, IsLowest}
 use Rattle.document_text.specs.Spelling.{◌⧺◌, fraction_text}
 use Rattle.document_text.specs.TermText.{times_text}
-use Rattle.hypergeometric.specs.TermFacts.{IsNumber, IsLowest}
 use Rattle.document_text.proofs.Cutting.{among, Only, Stops, only_append, only_more, cut}
 
 abbrev pub digit_bytes : List ℕ

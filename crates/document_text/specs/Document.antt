@@ -4,14 +4,9 @@ use Rattle.std.specs.Fmt.{decimal}
 use Rattle.hypergeometric.specs.LinearForm.{LinearForm, FactorList}
 use Rattle.hypergeometric.specs.ProperTerm.{ProperTerm}
 use Rattle.hypergeometric.specs.Claim.{Claim}
+use Rattle.hypergeometric.specs.Match.{Match}
 use Rattle.document_text.specs.Spelling.{◌⧺◌, joined, polynomial_text, polynomial_in_n_text}
 use Rattle.document_text.specs.TermText.{form_text, times_text, items_text, factors_text, factor_list_text, proper_term_text}
-
--- a form of q that is a form of r shifted by `shift`, as often as its power says
-pub record Match : Type 0 where
-  pub form : LinearForm
-  pub shift : ℕ
-  pub power : ℕ
 
 -- a found claim: its order, Gosper's normal form (the matches, q and r), the recurrence with its certificate, and the range of the sum
 pub record Found : Type 0 where

@@ -5,7 +5,8 @@ use Rattle.hypergeometric.specs.LinearForm.{LinearForm, Factor, FactorList}
 use Rattle.hypergeometric.specs.FormOrder.{IsForm, IsPrimitive, IsFactor, IsSorted}
 use Rattle.hypergeometric.specs.ProperTerm.{ProperTerm}
 use Rattle.hypergeometric.specs.TermFacts.{IsNumber, IsPolynomial, total_power, IsProper, IsPlain}
-use Rattle.document_text.specs.Document.{Match, Found, Document}
+use Rattle.hypergeometric.specs.Match.{Match}
+use Rattle.document_text.specs.Document.{Found, Document}
 
 -- primitive forms, in their order
 pub record ArePrimitiveFactors (xs : List Factor) : Type 0 where

@@ -2,8 +2,7 @@
 use Rattle.std.proofs.Common.{◌≡◌, ℕ, ◌-◌, ◌^◌, ◌<◌, ◌≤◌, ◌⊎◌, inl, inr, List, [], ◌∷◌, Some, Contains, slice_index_or, subst, arith, refl}
 use Rattle.ek_io.specs.Faults.{Rose, NeverFalls, count_up}
 use Rattle.ek_io.specs.Transfer.{TakesBytes, TakesAtMost, AppendsFront}
-use Rattle.ek_io.specs.Memory.{SourceState, fresh_source, bytes_given, source_after, source_after_fault}
-use Rattle.ek_io.specs.Memory.{SinkState, WriteFails, fresh_sink, bytes_taken, sink_after, sink_after_fault}
+use Rattle.ek_io.specs.Memory.{SourceState, fresh_source, bytes_given, source_after, source_after_fault, SinkState, WriteFails, fresh_sink, bytes_taken, sink_after, sink_after_fault}
 
 -- a count goes up by one, and stays at its last value
 pub known_counts : (count_up 0 ≡ 1) × (count_up (2 ^ 64 - 2) ≡ 2 ^ 64 - 1) × (count_up (2 ^ 64 - 1) ≡ 2 ^ 64 - 1)

@@ -11,19 +11,19 @@ use Rattle.hypergeometric.specs.Fraction.{Fraction, ◌≈◌, of_whole}
 use Rattle.hypergeometric.specs.ProperTerm.{ProperTerm}
 use Rattle.hypergeometric.specs.PlainTerm.{plain_term}
 use Rattle.hypergeometric.specs.TermFacts.{IsNumber}
-use Rattle.hypergeometric.specs.Tree.{Tree}
-use Rattle.hypergeometric.specs.TreeValue.{term_value}
+use Rattle.hypergeometric.specs.TermValue.{HasValue}
 use Rattle.hypergeometric.proofs.PlainTerms.{plain_value}
-use Rattle.term_classes.specs.ClassValues.{HasValue}
-use Rattle.term_classes.specs.Walk.{class_of}
 use Rattle.document_text.specs.Document.{document_text}
 use Rattle.cert_text.specs.PolynomialDocument.{in_k, polynomial_document}
 use Rattle.cert_text.specs.Readable.{contents}
 use Rattle.cert_text.proofs.LiftedPolynomials.{in_k_value}
 use Rattle.cert_text.proofs.PolynomialClaims.{polynomial_document_well_formed, polynomial_document_telescopes}
 use Rattle.cert_checker.proofs.RightDocuments.{small_in_bounds}
+use Rattle.grammar.specs.Tree.{Tree}
 use Rattle.grammar.specs.Several.{a_term}
 use Rattle.grammar.specs.Reading.{HasTrees}
+use Rattle.term_classes.specs.TreeValue.{term_value}
+use Rattle.term_classes.specs.Walk.{class_of}
 use Rattle.ekhad_cli.specs.Antidifference.{value_of, DividesAll, IsLeastAntidifference}
 use Rattle.ekhad_cli.specs.FirstRun.{IsSmall, polynomial_of, HasNumbers}
 use Rattle.ekhad_cli.specs.Answer.{coefficient, IsLeast, IsAntidifferenceOf}

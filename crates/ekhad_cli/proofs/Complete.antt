@@ -1,16 +1,16 @@
 -- A text that is answered is refused only where memory or the outside fail.
 use Rattle.std.proofs.Common.{◌≡◌, ◌≤◌, ℕ, List, [], ◌∷◌, length, Some, Ok, inl, inr, ap, sym, ◌∙◌, subst, arith}
 use Rattle.hypergeometric.specs.ProperTerm.{ProperTerm}
-use Rattle.hypergeometric.specs.Tree.{Tree}
+use Rattle.cert_text.specs.Readable.{Contents, IsTextOf}
+use Rattle.cert_text.proofs.OneDocument.{one_document}
+use Rattle.cert_checker.specs.Checks.{AreInBounds}
+use Rattle.grammar.specs.Tree.{Tree}
 use Rattle.grammar.specs.Several.{a_term}
 use Rattle.grammar.specs.Reading.{HasTrees, Fault, IsFirstFault}
 use Rattle.grammar.proofs.OneOutcome.{one_contents, contents_or_fault}
 use Rattle.term_classes.specs.Refusals as classes
 use Rattle.steps.specs.Steps.{IsTooLargeAt}
 use Rattle.term_classes.specs.Walk.{class_of}
-use Rattle.cert_text.specs.Readable.{Contents, IsTextOf}
-use Rattle.cert_text.proofs.OneDocument.{one_document}
-use Rattle.cert_checker.specs.Checks.{AreInBounds}
 use Rattle.ekhad_cli.specs.declared.words.Command.{Command}
 use Rattle.ekhad_cli.specs.declared.words.Command.TheVariants.{Gosper, Check}
 use Rattle.ekhad_cli.specs.declared.refusal.Refusal.{Refusal}

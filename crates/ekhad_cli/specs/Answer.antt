@@ -5,17 +5,17 @@ use Rattle.ring_laws.specs.Meaning.{Meaning, items}
 use Rattle.ring_laws.specs.Wholes.{number_of}
 use Rattle.poly_laws.specs.Lists.{coefficient_at}
 use Rattle.poly_laws.specs.Values.{value_at, level}
-use Rattle.hypergeometric.specs.Tree.{Tree}
-use Rattle.hypergeometric.specs.TreeValue.{term_value}
 use Rattle.hypergeometric.specs.Telescopes.{Telescopes}
-use Rattle.document_text.specs.Document.{Document}
 use Rattle.hypergeometric.specs.TermFacts.{IsPolynomial}
+use Rattle.document_text.specs.Document.{Document}
 use Rattle.document_text.specs.WellFormed.{IsWellFormed}
 use Rattle.cert_text.specs.PolynomialDocument.{polynomial_document}
 use Rattle.cert_text.specs.Readable.{contents, AreReadable}
 use Rattle.cert_checker.specs.Checks.{AreInBounds}
+use Rattle.grammar.specs.Tree.{Tree}
 use Rattle.grammar.specs.Several.{a_term}
 use Rattle.grammar.specs.Reading.{HasTrees}
+use Rattle.term_classes.specs.TreeValue.{term_value}
 use Rattle.term_classes.specs.Walk.{class_of}
 
 -- the coefficient of k^power

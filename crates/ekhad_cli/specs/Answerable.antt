@@ -1,13 +1,13 @@
 -- Which texts are answered: those of the grammar, within the limits, whose steps are in bounds. A later command adds its case.
 use Rattle.std.specs.Prelude.{◌≡◌, ◌≤◌, ℕ, List, [], ◌∷◌, length, Ok}
 use Rattle.hypergeometric.specs.ProperTerm.{ProperTerm}
-use Rattle.hypergeometric.specs.Tree.{Tree}
+use Rattle.cert_text.specs.Readable.{Contents, IsTextOf}
+use Rattle.cert_checker.specs.Checks.{AreInBounds}
+use Rattle.grammar.specs.Tree.{Tree}
 use Rattle.grammar.specs.Several.{a_term}
 use Rattle.grammar.specs.Reading.{HasTrees}
 use Rattle.steps.specs.Steps.{IsTooLargeAt}
 use Rattle.term_classes.specs.Walk.{class_of}
-use Rattle.cert_text.specs.Readable.{Contents, IsTextOf}
-use Rattle.cert_checker.specs.Checks.{AreInBounds}
 use Rattle.ekhad_cli.specs.FirstRun.{IsFirstRunTerm}
 use Rattle.ekhad_cli.specs.Commands.{most_bytes}
 use Rattle.ekhad_cli.specs.declared.words.Command.{Command}

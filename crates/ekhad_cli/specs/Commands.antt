@@ -1,8 +1,9 @@
 -- The commands: their words, what each writes of the bytes that it reads, and why it refuses them.
 use Rattle.std.specs.Prelude.{codes, ◌≡◌, ◌++◌, ◌<◌, ◌≤◌, ℕ, suc, List, [], ◌∷◌, length, Ok, Err}
 use Rattle.std.specs.Fmt.{decimal}
+use Rattle.steps.specs.Steps.{limit, IsTooLargeAt}
+use Rattle.steps.specs.TermFaults.{TermRefusal, improper}
 use Rattle.hypergeometric.specs.ProperTerm.{ProperTerm}
-use Rattle.hypergeometric.specs.Tree.{Tree}
 use Rattle.document_text.specs.Document.{Document, document_text}
 use Rattle.cert_text.specs.Readable.{Contents, IsTextOf, IsFirstBadLine, carried}
 use Rattle.cert_checker.specs.Checks.{HasCarrier, HasMultiplier, AreInBounds, IsVerdictOf, IsAccepted, ClaimTelescopes}
@@ -10,10 +11,9 @@ use Rattle.cert_checker.specs.declared.verdicts.Verdict.{Verdict}
 use Rattle.cert_checker.specs.declared.verdicts.Verdict.TheVariants.{Accepted, Rejected}
 use Rattle.cert_checker.specs.declared.verdicts.Reason.{Reason}
 use Rattle.cert_checker.specs.declared.verdicts.Reason.TheVariants.{Shape, Normal, Carrier, Zero, Poles, Equation, Case, Same, Sums}
+use Rattle.grammar.specs.Tree.{Tree}
 use Rattle.grammar.specs.Several.{a_term}
 use Rattle.grammar.specs.Reading.{HasTrees, IsFirstFault, Fault, unexpected_at, unknown_name_at, unclosed_at, empty_input, not_ascii_at, nesting_at, literal_too_large_at}
-use Rattle.steps.specs.Steps.{limit, IsTooLargeAt}
-use Rattle.steps.specs.TermFaults.{TermRefusal, improper}
 use Rattle.term_classes.specs.Walk.{class_of}
 use Rattle.ekhad_cli.specs.FirstRun.{IsFirstRunTerm}
 use Rattle.ekhad_cli.specs.Answer.{IsAnswerTo}

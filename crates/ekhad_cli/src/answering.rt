@@ -1,7 +1,7 @@
 //! The document of a term, from text to text.
 
 ghost use Rattle.std.specs.Prelude.{◌≡◌, ◌≤◌, ℕ, List, [], ◌∷◌, length, IfOk, IfErr};
-ghost use Rattle.hypergeometric.specs.Tree.{Tree};
+ghost use Rattle.grammar.specs.Tree.{Tree};
 ghost use Rattle.grammar.specs.Reading.{HasTrees};
 ghost use Rattle.grammar.specs.Several.{a_term};
 ghost use Rattle.term_text.specs.Answers.{HasFault};

@@ -126,7 +126,14 @@ fn terms_that_are_not_proper(rt: HostRuntime) {
         ("k*0", "ekhad: improper: reason 7 at 2\n"),
     ];
     for (text, line) in rows {
-        let refused = refuses(&rt, "gosper", text.as_bytes(), Status::Improper, line, &WHOLE);
+        let refused = refuses(
+            &rt,
+            "gosper",
+            text.as_bytes(),
+            Status::Improper,
+            line,
+            &WHOLE,
+        );
         assert!(rt; refused, "{text}");
     }
 }

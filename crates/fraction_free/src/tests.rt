@@ -85,7 +85,13 @@ fn vectors_of_whole_numbers(rt: HostRuntime) -> Result<(), RingFault> {
         (&[&[1, -1, 0]], 3, 0, &[1, 1, 0], 1),
         (&[&[0, 0]], 2, 1, &[0, 1], 1),
         (&[&[2, 3, 1], &[4, 5, 7]], 3, 0, &[-8, 5, 1], 2),
-        (&[&[0, 1 << 100, 1], &[0, (1 << 99) + 1, 1]], 3, 0, &[1, 0, 0], 0),
+        (
+            &[&[0, 1 << 100, 1], &[0, (1 << 99) + 1, 1]],
+            3,
+            0,
+            &[1, 0, 0],
+            0,
+        ),
     ];
     for (rows, columns, first, wanted, free) in table {
         let rows = rows_of(alloc, rows, columns as usize)?;
@@ -94,7 +100,12 @@ fn vectors_of_whole_numbers(rt: HostRuntime) -> Result<(), RingFault> {
     }
     // the second column can't be cleared; elimination goes there only where the first one isn't wanted
     let rows = rows_of(alloc, &[&[0, 1 << 100, 1], &[0, (1 << 99) + 1, 1]], 3)?;
-    assert!(rt; matches!(has_vector(alloc, rows, 3, 1, &[], 2), Err(RingFault::TooLarge)));
+    assert!(rt;
+        matches!(
+            has_vector(alloc, rows, 3, 1, &[], 2),
+            Err(RingFault::TooLarge)
+        )
+    );
     Ok(())
 }
 

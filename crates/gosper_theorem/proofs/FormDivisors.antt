@@ -8,22 +8,22 @@ use Rattle.poly_laws.proofs.Equal.{level_laws}
 use Rattle.poly_laws.proofs.Keeps.{value_at_keeps}
 use Rattle.poly_laws.proofs.ListLaws.{nought_product, product_nought}
 use Rattle.poly_laws.proofs.PolyLaws.{coefficient-whole}
+use Rattle.division_laws.specs.Polynomials.{Polynomial}
+use Rattle.division_laws.specs.Divisors.{HasDegree, Divides, IsPrime}
+use Rattle.division_laws.proofs.Polynomials.{list_of}
+use Rattle.division_laws.proofs.Degrees.{DegreeBelow, degree_or_zero, degree_by, lone_ends, not_zero, one_degree, product_degree, unit_degree}
+use Rattle.division_laws.proofs.Divisors.{equation}
+use Rattle.division_laws.proofs.Primes.{prime_divides}
 use Rattle.hypergeometric.specs.Point.{values}
 use Rattle.hypergeometric.specs.LinearForm.{LinearForm, Factor, FactorList}
-use Rattle.lin_form.specs.FactorLists.{same_form, factor_with, power_of}
-use Rattle.lin_form.specs.Products.{list_polynomial}
-use Rattle.lin_form.proofs.Lookups.{same_form_itself}
-use Rattle.division_laws.specs.Polynomials.{Polynomial}
-use Rattle.division_laws.proofs.Polynomials.{list_of}
+use Rattle.hypergeometric.specs.FactorLists.{same_form, factor_with, power_of}
+use Rattle.hypergeometric.specs.Products.{list_polynomial}
+use Rattle.hypergeometric.proofs.Lookups.{same_form_itself}
 use Rattle.pole_laws.proofs.Cancelling.{no_forms}
 use Rattle.pole_laws.proofs.Domains.{in_n_domain}
 use Rattle.pole_laws.proofs.FormProducts.{in_k_ring, forms_in_k, joined_forms}
 use Rattle.pole_laws.proofs.NonzeroPieces.{power_step, no_power}
 use Rattle.pole_laws.proofs.NormalPolynomials.{in_k, list_in, same_polynomials, product_at, value_of, forms_alone}
-use Rattle.division_laws.specs.Divisors.{HasDegree, Divides, IsPrime}
-use Rattle.division_laws.proofs.Degrees.{DegreeBelow, degree_or_zero, degree_by, lone_ends, not_zero, one_degree, product_degree, unit_degree}
-use Rattle.division_laws.proofs.Divisors.{equation}
-use Rattle.division_laws.proofs.Primes.{prime_divides}
 
 abbrev pub Prime : Polynomial (level 1) → Type 0
 Prime p = IsPrime (level 1) p

@@ -6,17 +6,19 @@ use Rattle.ring_solver.proofs.Read.{reading, ring}
 use Rattle.ring_laws.specs.Algebra.{Passing, same_passing}
 use Rattle.poly_laws.specs.Values.{level}
 use Rattle.poly_laws.proofs.Equal.{level_laws}
-use Rattle.kernel_laws.specs.Answers.{Vector, meant}
 use Rattle.poly_laws.proofs.Rings.{solvable}
-use Rattle.hypergeometric.specs.ProperTerm.{ProperTerm, HasFractions}
-use Rattle.lin_form.specs.Products.{list_polynomial}
-use Rattle.term_pieces.specs.Pieces.{Pieces, ArePiecesOf}
-use Rattle.normal_forms.specs.NormalForm.{Normal, IsNormalFormOf}
-use Rattle.normal_forms.proofs.NoMatches.{no_match}
 use Rattle.division_laws.specs.Polynomials.{Polynomial, at_previous}
+use Rattle.division_laws.proofs.Shifts.{later_product, later_none}
+use Rattle.kernel_laws.specs.Answers.{Vector, meant}
 use Rattle.key_laws.specs.KeyEquation.{meanings, combination, Insoluble}
+use Rattle.key_laws.specs.Certificates.{IsCertificate}
 use Rattle.key_laws.proofs.Poles.{combination_times}
 use Rattle.key_laws.proofs.Polynomials.{combination_in, combination_is}
+use Rattle.hypergeometric.specs.ProperTerm.{ProperTerm, HasFractions}
+use Rattle.hypergeometric.specs.Products.{list_polynomial}
+use Rattle.term_pieces.specs.Pieces.{Pieces, ArePiecesOf}
+use Rattle.term_pieces.specs.NormalForm.{Normal, IsNormalFormOf}
+use Rattle.term_pieces.proofs.NoMatches.{no_match}
 use Rattle.pole_laws.specs.Orders.{sides_of}
 use Rattle.pole_laws.proofs.Certificates.{sides_in}
 use Rattle.pole_laws.proofs.Domains.{in_n_domain}
@@ -24,10 +26,8 @@ use Rattle.pole_laws.proofs.FormProducts.{in_k_ring}
 use Rattle.pole_laws.proofs.NonzeroNormal.{q_some, r_some}
 use Rattle.pole_laws.proofs.NonzeroPieces.{q0_some, r0_some}
 use Rattle.pole_laws.proofs.NormalPolynomials.{in_k, shift_by, list_in, above, below, of_q, of_r, of_chains, of_next}
-use Rattle.key_laws.specs.Certificates.{IsCertificate}
 use Rattle.gosper_theorem.proofs.Fractions.{fraction_difference}
 use Rattle.gosper_theorem.proofs.InsolubleFractions.{no_rational_solution}
-use Rattle.division_laws.proofs.Shifts.{later_product, later_none}
 use Rattle.gosper_theorem.proofs.NoSharedPrimes.{no_shared_prime}
 use Rattle.gosper_theorem.proofs.ProperLists.{q_proper, r_proper}
 

@@ -6,24 +6,24 @@ use Rattle.std.proofs.Math.IntN.{pow}
 use Rattle.std.specs.List.{AllByRecursion}
 use Rattle.poly_laws.specs.Values.{level}
 use Rattle.poly_laws.proofs.Equal.{level_laws}
+use Rattle.division_laws.specs.Polynomials.{Polynomial}
+use Rattle.division_laws.specs.Divisors.{Divides}
+use Rattle.division_laws.proofs.Shifts.{at_later, later_twice, later_by_none}
+use Rattle.division_laws.proofs.ShiftedDivisors.{later_divides, later_prime}
 use Rattle.hypergeometric.specs.Point.{later_k}
 use Rattle.hypergeometric.specs.LinearForm.{LinearForm, FactorList}
 use Rattle.hypergeometric.specs.FormOrder.{IsPrimitive}
-use Rattle.lin_form.specs.FactorLists.{factor_with, power_of}
-use Rattle.lin_form.specs.Products.{list_polynomial}
+use Rattle.hypergeometric.specs.FactorLists.{factor_with, power_of}
+use Rattle.hypergeometric.specs.Products.{list_polynomial}
 use Rattle.term_pieces.specs.Products.{at_later_k}
+use Rattle.term_pieces.specs.NormalForm.{at_earlier_k, HasNoMatch}
 use Rattle.term_pieces.proofs.FormValues.{later_k_value, lone_value}
-use Rattle.normal_forms.specs.NormalForm.{at_earlier_k, HasNoMatch}
-use Rattle.normal_forms.proofs.EarlierForms.{and_back}
-use Rattle.division_laws.specs.Polynomials.{Polynomial}
+use Rattle.term_pieces.proofs.EarlierForms.{and_back}
 use Rattle.pole_laws.proofs.Cancelling.{form_in_k, lone_form}
 use Rattle.pole_laws.proofs.Domains.{in_n_domain}
 use Rattle.pole_laws.proofs.FormProducts.{forms_in_k}
 use Rattle.pole_laws.proofs.NormalPolynomials.{shift_by, list_in, same_polynomials, shift_at, forms_alone}
-use Rattle.division_laws.specs.Divisors.{Divides}
 use Rattle.gosper_theorem.proofs.ShiftFamilies.{up, down}
-use Rattle.division_laws.proofs.Shifts.{at_later, later_twice, later_by_none}
-use Rattle.division_laws.proofs.ShiftedDivisors.{later_divides, later_prime}
 use Rattle.gosper_theorem.proofs.FormDivisors.{Prime, FormOf, form_of}
 use Rattle.gosper_theorem.proofs.LaterForms.{later_primitive}
 use Rattle.gosper_theorem.proofs.SharedPrimes.{same_forms}

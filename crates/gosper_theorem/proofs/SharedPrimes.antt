@@ -11,21 +11,21 @@ use Rattle.poly_laws.proofs.Keeps.{value_at_keeps}
 use Rattle.poly_laws.proofs.ListLaws.{nought_product, sum_nought}
 use Rattle.poly_laws.proofs.PolyLaws.{coefficient-product}
 use Rattle.poly_laws.proofs.Rings.{solvable}
+use Rattle.poly_laws.proofs.OneQuotient.{cancelled}
+use Rattle.poly_laws.proofs.ProductTops.{product_top, product_second}
+use Rattle.division_laws.specs.Polynomials.{Polynomial}
+use Rattle.division_laws.specs.Divisors.{HasDegree, Divides}
+use Rattle.division_laws.proofs.Polynomials.{list_of, part}
+use Rattle.division_laws.proofs.Degrees.{ends, lead_some, no_divisors}
+use Rattle.division_laws.proofs.Divisors.{equation, free_product}
 use Rattle.hypergeometric.specs.LinearForm.{LinearForm}
 use Rattle.hypergeometric.specs.FormOrder.{IsPrimitive}
-use Rattle.lin_form.specs.Forms.{form_with, multiple}
-use Rattle.lin_form.proofs.OnlyPrimitive.{only_primitive}
-use Rattle.division_laws.specs.Polynomials.{Polynomial}
-use Rattle.poly_laws.proofs.OneQuotient.{cancelled}
-use Rattle.division_laws.proofs.Polynomials.{list_of, part}
-use Rattle.poly_laws.proofs.ProductTops.{product_top, product_second}
+use Rattle.hypergeometric.specs.Forms.{form_with, multiple}
+use Rattle.hypergeometric.proofs.OnlyPrimitive.{only_primitive}
 use Rattle.pole_laws.proofs.Cancelling.{form_in_k}
 use Rattle.pole_laws.proofs.Domains.{in_n_domain}
 use Rattle.pole_laws.proofs.FormProducts.{in_k_ring}
 use Rattle.pole_laws.proofs.NormalPolynomials.{in_k}
-use Rattle.division_laws.specs.Divisors.{HasDegree, Divides}
-use Rattle.division_laws.proofs.Degrees.{ends, lead_some, no_divisors}
-use Rattle.division_laws.proofs.Divisors.{equation, free_product}
 use Rattle.gosper_theorem.proofs.FormDivisors.{Prime}
 use Rattle.gosper_theorem.proofs.EqualForms.{in_n, free_part, form_part, form_degree, free_value, quotient_free}
 

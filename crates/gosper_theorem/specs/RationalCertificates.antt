@@ -1,12 +1,12 @@
 -- What it means that an order has no rational certificate.
 use Rattle.std.specs.Prelude.{◌≡◌, ℕ, ◌<◌, List, length}
 use Rattle.poly_laws.specs.Values.{level}
-use Rattle.kernel_laws.specs.Answers.{Vector, meant}
-use Rattle.lin_form.specs.Products.{list_polynomial}
-use Rattle.term_pieces.specs.Pieces.{Pieces}
 use Rattle.division_laws.specs.Polynomials.{Polynomial}
+use Rattle.kernel_laws.specs.Answers.{Vector, meant}
 use Rattle.key_laws.specs.KeyEquation.{meanings}
 use Rattle.key_laws.specs.Certificates.{CertificateIdentity}
+use Rattle.hypergeometric.specs.Products.{list_polynomial}
+use Rattle.term_pieces.specs.Pieces.{Pieces}
 
 -- U/W is a certificate for multipliers a_j in n: q0(k) U(k+1) W(k) - r0(k-1) U(k) W(k+1) = (a_0 p_0 + a_1 p_1 + ..) W(k) W(k+1)
 abbrev pub IsRationalCertificate : Pieces → List (Polynomial (level 1)) → Vector (level 1) → (u w : Polynomial (level 1)) → Type 0

@@ -8,7 +8,7 @@ use Rattle.std.specs.Str.Parse.{digits_value}
 use Rattle.std.proofs.lemmas.Bool.{eqb-true, eqb-false}
 use Rattle.std.proofs.lemmas.List.{drop_all}
 use Rattle.std.proofs.lemmas.List.Sums.{take_while-cons}
-use Rattle.hypergeometric.specs.Tree.{Tree}
+use Rattle.grammar.specs.Tree.{Tree}
 use Rattle.grammar.specs.Token.{Token, digits, name_n, name_k, name_binomial, opening, Placed, open_parentheses, IsOver64}
 use Rattle.grammar.specs.Tokens.{Front, at_end, token, flawed, strange, not_ascii, unknown_name, literal_too_large, number_token, name_token, symbol_token, front, past_spaces, next_front}
 use Rattle.grammar.specs.Several.{Derivation, derivation_trees, derivation_bounds, Kind}

@@ -2,7 +2,7 @@
 use Rattle.std.proofs.Common.{List, [], ◌∷◌, refl, pos}
 use Rattle.std.specs.Prelude.{codes, negsuc}
 use Rattle.grammar.specs.Token.{digits, name_n, name_k, minus, comma, semicolon, Placed}
-use Rattle.hypergeometric.specs.Tree.{tree, variable_n, variable_k}
+use Rattle.grammar.specs.Tree.{tree, variable_n, variable_k}
 use Rattle.grammar.specs.Grammar.{product_alone, Product, power_alone, postfix_alone, Atom, atom_alone, the_n, the_k}
 use Rattle.grammar.specs.Bounds.{plain_bound, minus_bound, bound_alone, bound_more}
 use Rattle.grammar.specs.Reading.{HasContents}

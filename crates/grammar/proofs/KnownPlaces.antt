@@ -2,7 +2,7 @@
 use Rattle.std.proofs.Common.{true, false, List, [], ◌∷◌, refl}
 use Rattle.std.specs.Prelude.{codes}
 use Rattle.grammar.specs.Token.{name_n, name_k, plus, minus, star, slash, bang, Placed}
-use Rattle.hypergeometric.specs.Tree.{Tree, tree, variable_n, variable_k, sum_of, product_of, no_parts, part}
+use Rattle.grammar.specs.Tree.{Tree, tree, variable_n, variable_k, sum_of, product_of, no_parts, part}
 use Rattle.grammar.specs.Grammar.{minus_product, product_more, Product, power_alone, power_more, Power, postfix_alone, Atom, atom_alone, the_n, the_k}
 use Rattle.grammar.specs.Reading.{IsFirstFault, HasTrees, unknown_name_at}
 use Rattle.grammar.specs.Several.{a_term, term_alone, only_terms}

@@ -2,7 +2,7 @@
 use Rattle.std.proofs.Common.{◌≡◌, ℕ, Bool, true, false, List, [], ◌∷◌, ◌++◌, refl, ap, sym, ◌∙◌, inr, length}
 use Rattle.std.specs.Prelude.{codes, nat_lt, if◌then◌else◌}
 use Rattle.grammar.specs.Token.{digits, name_n, name_k, name_binomial, minus, star, slash, caret, bang, opening, closing, comma, semicolon, Placed, with_token, IsNested64}
-use Rattle.hypergeometric.specs.Tree.{tree, literal, variable_n, variable_k, sum_of, product_of, power_of, binomial_of, no_parts, part}
+use Rattle.grammar.specs.Tree.{tree, literal, variable_n, variable_k, sum_of, product_of, power_of, binomial_of, no_parts, part}
 use Rattle.grammar.specs.Grammar.{product_alone, minus_product, power_alone, power_more, postfix_alone, raised, atom_alone, number, the_n, the_k, choose}
 use Rattle.grammar.specs.Reading.{IsFirstFault, HasTrees, unexpected_at, unclosed_at, empty_input}
 use Rattle.grammar.specs.Several.{a_term, a_pair, a_recurrence, term_alone, term_more, only_terms}

@@ -4,7 +4,7 @@ use Rattle.std.specs.Prelude.{ℤ}
 use Rattle.std.proofs.lemmas.List.{append_assoc}
 use Rattle.grammar.specs.Token.{Token, Placed, with_token, open_parentheses, IsOver64, IsNested64}
 use Rattle.grammar.specs.Tokens.{Front, at_end, token, flawed, past_spaces, next_front, HasTokens}
-use Rattle.hypergeometric.specs.Tree.{Tree}
+use Rattle.grammar.specs.Tree.{Tree}
 use Rattle.grammar.specs.Several.{derivation_trees, derivation_bounds, Kind, Continues}
 use Rattle.grammar.specs.Reading.{Fault, IsMisfit, IsFaultBehind, AreFitting, IsFirstFault, HasContents}
 use Rattle.grammar.proofs.TermKinds.{one_derivation}

@@ -7,7 +7,7 @@
 -- Of a text's two spellings `x_text s rest` is its tokens in front of `rest`.
 use Rattle.std.specs.Prelude.{ℕ, Bool, true, false, List, ◌∷◌}
 use Rattle.grammar.specs.Token.{digits, name_n, name_k, name_binomial, minus, caret, bang, opening, closing, comma, Placed, sum_sign, product_sign}
-use Rattle.hypergeometric.specs.Tree.{Tree, tree, literal, variable_n, variable_k, sum_of, product_of, power_of, factorial_of, binomial_of, Parts, no_parts, part}
+use Rattle.grammar.specs.Tree.{Tree, tree, literal, variable_n, variable_k, sum_of, product_of, power_of, factorial_of, binomial_of, Parts, no_parts, part}
 
 mutual
   pub data Sum : Type 0 where

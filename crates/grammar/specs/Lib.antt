@@ -1,3 +1,4 @@
+pub mod Tree
 pub mod Token
 pub mod Grammar
 pub mod Bounds

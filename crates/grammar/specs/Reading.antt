@@ -2,7 +2,7 @@
 use Rattle.std.specs.Prelude.{ℕ, List, [], ◌∷◌, ◌++◌, ◌≡◌, ◌⊎◌, length, ℤ}
 use Rattle.grammar.specs.Token.{Token, Placed, open_parentheses, IsOver64, IsNested64}
 use Rattle.grammar.specs.Tokens.{Flaw, strange, not_ascii, unknown_name, literal_too_large, Front, at_end, token, flawed, past_spaces, next_front, HasTokens}
-use Rattle.hypergeometric.specs.Tree.{Tree}
+use Rattle.grammar.specs.Tree.{Tree}
 use Rattle.grammar.specs.Several.{Derivation, derivation_trees, derivation_bounds, Kind, Derives, Continues}
 
 pub data Fault : Type 0 where

@@ -6,7 +6,7 @@
 
 ghost use Rattle.std.specs.Prelude.{◌≡◌, ◌⊎◌, [], ◌++◌, ℕ, List, ℤ};
 ghost use Rattle.grammar.specs.Token.{Placed};
-ghost use Rattle.hypergeometric.specs.Tree.{Tree};
+ghost use Rattle.grammar.specs.Tree.{Tree};
 ghost use Rattle.grammar.specs.Grammar.{Sum, sum_text};
 ghost use Rattle.grammar.specs.Several.{Kind};
 ghost use Rattle.grammar.specs.Reading.{Fault, HasContents, IsFirstFault};

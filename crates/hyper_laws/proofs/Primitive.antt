@@ -5,9 +5,10 @@ use Rattle.std.proofs.lemmas.Nat.Gcd.{dvd_antisymm}
 use Rattle.std.proofs.Math.Nat.{dvd-sub, dvd-mul_right, dvd-mul_left, dvd_of_mul-dvd-mul_left, mul-sub, mul-one, mul-div_cancel', mul_comm, eq_of_mul-eq-mul_left}
 use Rattle.std.proofs.Math.IntN.{*ℤ_comm}
 use Rattle.std.specs.Int.{◌∣◌}
-use Rattle.std.specs.Prelude.{ℤ, pos, ◌-ℤ◌, ◌*ℤ◌, ◌<ℤ◌, unsigned_abs}
+use Rattle.std.specs.Prelude.{ℤ, pos, ◌*ℤ◌, ◌<ℤ◌, unsigned_abs}
 use Rattle.ring_solver.proofs.Linear.{product_zero}
 use Rattle.ring_solver.proofs.Read.{ring_z, reading_z}
+use Rattle.hypergeometric.proofs.FractionLaws.{cancel_factor}
 use Rattle.hyper_laws.proofs.CommonDivisors.{Common, common}
 
 -- no number above 1 divides each
@@ -37,14 +38,6 @@ divides a b g some primitive within = by (common (Within a g) keeps (a + b) a b 
         primitive q (λ k. dvd_of_mul-dvd-mul_left q (positive c.divisor q split)
         (subst (λ t. t ∣ c.divisor * g k) (sym split) (subst (λ t. a ∣ t) (mul_comm (g k) c.divisor) (c.has k)))) in
         subst (λ t. t ∣ b) (sym (mul-one c.divisor) ∙ ap (λ t. c.divisor * t) (sym one) ∙ split) c.second
-
--- ---- with their signs
-cancelled : (a x y : ℤ) → a ≢ pos 0 → a *ℤ x ≡ a *ℤ y → x ≡ y
-cancelled a x y some h =
-    ⊎_elim (λ z. absurd (some z)) (λ z. omega (arith, ints, z)) (product_zero a (x -ℤ y) (spread a x y ∙ omega (arith, ints, h)))
-  where
-    spread : (a x y : ℤ) → a *ℤ (x -ℤ y) ≡ a *ℤ x -ℤ a *ℤ y
-    spread a x y = ring_z (a ∷ x ∷ y ∷ []) (search reading_z depth 40 fits 20000) refl
 
 sized : (a : ℤ) → a ≢ pos 0 → 0 < unsigned_abs a
 sized a some = omega (arith, ints, some)
@@ -77,7 +70,7 @@ module _ (a b : ℤ) (f g : ℕ → ℤ) (some : a ≢ pos 0) (same : (k : ℕ) 
   same_factor : a ≡ b
   same_factor =
       let there : f e ≡ g e = omega (arith, ints, same_there, f_positive, g_positive) in
-      cancelled (f e) a b (λ z. omega (arith, ints, z, f_positive)) (*ℤ_comm (f e) a ∙ same e ∙ ap (λ t. b *ℤ t) (sym there) ∙ *ℤ_comm b (f e))
+      cancel_factor (f e) a b (λ z. omega (arith, ints, z, f_positive)) (*ℤ_comm (f e) a ∙ same e ∙ ap (λ t. b *ℤ t) (sym there) ∙ *ℤ_comm b (f e))
 
   pub primitive_same : (k : ℕ) → f k ≡ g k
-  primitive_same k = cancelled a (f k) (g k) some (same k ∙ ap (λ t. t *ℤ g k) (sym same_factor))
+  primitive_same k = cancel_factor a (f k) (g k) some (same k ∙ ap (λ t. t *ℤ g k) (sym same_factor))

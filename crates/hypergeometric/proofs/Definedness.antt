@@ -2,11 +2,11 @@
 use Rattle.std.proofs.Common.{ℕ, zero, suc, ◌<◌, arith, List, [], ◌∷◌}
 use Rattle.std.proofs.lemmas.Int.{ints}
 use Rattle.std.specs.Prelude.{ℤ, pos, negsuc, ◌≤ℤ◌}
-use Rattle.hypergeometric.proofs.FractionLaws.{one_not_zero, product_not_zero}
 use Rattle.hypergeometric.specs.Point.{Point}
 use Rattle.hypergeometric.specs.Fraction.{Fraction, IsDefined, of_whole, fraction_inverse, natural_power, whole_power}
 use Rattle.hypergeometric.specs.LinearForm.{Factor, form_value, factorial, factorial_value, inverse_factorial_value, product_over}
 use Rattle.hypergeometric.specs.ProperTerm.{ProperTerm, NoneNegative, NoneZero, IsDefinedAt, proper_value, IsNonzero, HasFractions}
+use Rattle.hypergeometric.proofs.FractionLaws.{one_not_zero, product_not_zero}
 
 pub natural_power_defined : (f : Fraction) (n : ℕ) → IsDefined f → IsDefined (natural_power f n)
 natural_power_defined f zero d = one_not_zero
@@ -23,11 +23,11 @@ factorial_positive : (m : ℕ) → 0 < factorial m
 factorial_positive zero = omega arith
 factorial_positive (suc m) = grind (arith, factorial_positive m)
 
-factorial_value_defined : (z : ℤ) → pos 0 ≤ℤ z → IsDefined (factorial_value z)
+pub factorial_value_defined : (z : ℤ) → pos 0 ≤ℤ z → IsDefined (factorial_value z)
 factorial_value_defined (pos m) h = one_not_zero
 factorial_value_defined (negsuc m) h = omega (arith, ints, h)
 
-inverse_factorial_value_defined : (z : ℤ) → IsDefined (inverse_factorial_value z)
+pub inverse_factorial_value_defined : (z : ℤ) → IsDefined (inverse_factorial_value z)
 inverse_factorial_value_defined (pos m) = λ e. omega (arith, ints, e, factorial_positive m)
 inverse_factorial_value_defined (negsuc m) = one_not_zero
 

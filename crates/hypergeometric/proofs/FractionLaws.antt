@@ -1,7 +1,8 @@
 -- Laws of fractions, and of their equality.
-use Rattle.std.proofs.Common.{◌≡◌, ◌≢◌, refl, ap, sym, ◌∙◌, arith, [], ◌∷◌, ⊎_elim}
+use Rattle.std.proofs.Common.{◌≡◌, ◌≢◌, refl, ap, sym, ◌∙◌, arith, [], ◌∷◌, ⊎_elim, ℕ, zero, suc}
 use Rattle.std.proofs.lemmas.Int.{ints}
 use Rattle.std.specs.Prelude.{ℤ, pos, negsuc, ◌+ℤ◌, ◌*ℤ◌}
+use Rattle.std.proofs.Math.IntN.{pow, pow-succ'}
 use Rattle.ring_solver.proofs.Integers.{integers}
 use Rattle.ring_solver.proofs.Linear.{product_zero, from1, from2}
 use Rattle.ring_solver.proofs.Read.{ring_z, reading_z}
@@ -28,7 +29,7 @@ equal_to_itself f d = record { left_defined = d; right_defined = d; cross = refl
 pub equal_turned : {f g : Fraction} → f ≈ g → g ≈ f
 equal_turned e = record { left_defined = e.right_defined; right_defined = e.left_defined; cross = sym e.cross }
 
-cross_trans : (a b c d e f : ℤ) → d ≢ pos 0 → a *ℤ d ≡ c *ℤ b → c *ℤ f ≡ e *ℤ d → a *ℤ f ≡ e *ℤ b
+pub cross_trans : (a b c d e f : ℤ) → d ≢ pos 0 → a *ℤ d ≡ c *ℤ b → c *ℤ f ≡ e *ℤ d → a *ℤ f ≡ e *ℤ b
 cross_trans a b c d e f n p q =
     cancel_factor d (a *ℤ f) (e *ℤ b) n
     (from2 integers f b p q (ring_z (a ∷ b ∷ c ∷ d ∷ e ∷ f ∷ []) (search reading_z depth 40 fits 20000) refl))
@@ -40,7 +41,7 @@ equal_chain {f} {g} {h} p q = record {
   cross = cross_trans f.top f.bottom g.top g.bottom h.top h.bottom p.right_defined p.cross q.cross;
 }
 
-cross_sum : (a b c d a' b' c' d' : ℤ) → a *ℤ b' ≡ a' *ℤ b → c *ℤ d' ≡ c' *ℤ d
+pub cross_sum : (a b c d a' b' c' d' : ℤ) → a *ℤ b' ≡ a' *ℤ b → c *ℤ d' ≡ c' *ℤ d
     → (a *ℤ d +ℤ c *ℤ b) *ℤ (b' *ℤ d') ≡ (a' *ℤ d' +ℤ c' *ℤ b') *ℤ (b *ℤ d)
 cross_sum a b c d a' b' c' d' p q =
     from2 integers (d *ℤ d') (b *ℤ b') p q
@@ -54,7 +55,7 @@ equal_sums {f} {f'} {g} {g'} p q = record {
   cross = cross_sum f.top f.bottom g.top g.bottom f'.top f'.bottom g'.top g'.bottom p.cross q.cross;
 }
 
-cross_product : (a b c d a' b' c' d' : ℤ) → a *ℤ b' ≡ a' *ℤ b → c *ℤ d' ≡ c' *ℤ d
+pub cross_product : (a b c d a' b' c' d' : ℤ) → a *ℤ b' ≡ a' *ℤ b → c *ℤ d' ≡ c' *ℤ d
     → (a *ℤ c) *ℤ (b' *ℤ d') ≡ (a' *ℤ c') *ℤ (b *ℤ d)
 cross_product a b c d a' b' c' d' p q =
     from2 integers (c *ℤ d') (a' *ℤ b) p q
@@ -93,3 +94,8 @@ equal_wholes {f} {g} a b p q e = record {
   cross = ap (λ x. x.top *ℤ g.bottom) p ∙ ap (λ x. a *ℤ x.bottom) q ∙ ap (λ z. z *ℤ pos 1) e
       ∙ sym (ap (λ x. x.top *ℤ f.bottom) q ∙ ap (λ x. b *ℤ x.bottom) p);
 }
+
+pub pow_not_zero : (z : ℤ) (e : ℕ) → z ≢ pos 0 → pow z e ≢ pos 0
+unfolding pow lib.IntN.one
+pow_not_zero z zero h e = one_not_zero e
+pow_not_zero z (suc m) h e = product_not_zero z (pow z m) h (pow_not_zero z m h) (sym (pow-succ' z m) ∙ e)

@@ -1,5 +1,4 @@
--- Two sums that are known from elsewhere, so that a wrong definition does not check: 6k^2 is the difference of 2k^3 - 3k^2 + k, and
--- k * k! is the difference of k!. The first is stated for the value of the tree of `k^2`, the second for a term with a factorial.
+-- A sum that is known from elsewhere, so that a wrong definition does not check: k * k! is the difference of k!.
 use Rattle.std.proofs.Common.{◌≡◌, ℕ, ◌+◌, ◌*◌, refl, ap, sym, ◌∙◌, arith, subst, add-one, [], ◌∷◌}
 use Rattle.std.proofs.lemmas.Int.{ints}
 use Rattle.std.specs.Prelude.{ℤ, pos, negsuc, ◌+ℤ◌, ◌-ℤ◌, ◌*ℤ◌, ◌≤ℤ◌}
@@ -9,14 +8,12 @@ use Rattle.hypergeometric.specs.Point.{Point}
 use Rattle.hypergeometric.specs.Fraction.{Fraction, ◌≈◌, of_whole, fraction_product, fraction_difference, whole_power}
 use Rattle.hypergeometric.specs.LinearForm.{LinearForm, form_value, factorial, factorial_value}
 use Rattle.hypergeometric.specs.ProperTerm.{ProperTerm, poly_value, proper_value, IsDefinedAt, HasFractions}
-use Rattle.hypergeometric.specs.Tree.{Tree, tree, literal, variable_k, power_of}
-use Rattle.hypergeometric.specs.TreeValue.{term_value}
 use Rattle.hypergeometric.specs.Claim.{Claim, certificate, left_side, AllDefined}
 use Rattle.hypergeometric.specs.Telescopes.{Telescopes, TelescopesAt, TelescopesAtPoints, HasRatio}
-use Rattle.hypergeometric.specs.PlainTerm.{plain_claim, unit_list}
+use Rattle.hypergeometric.specs.PlainTerm.{unit_list}
 use Rattle.hypergeometric.proofs.FractionLaws.{one_not_zero, equal_wholes}
 use Rattle.hypergeometric.proofs.RangeSums.{ranges_from_points}
-use Rattle.hypergeometric.proofs.PlainTerms.{plain_telescopes, whole_power_of_one, difference_of_wholes}
+use Rattle.hypergeometric.proofs.PlainTerms.{whole_power_of_one, difference_of_wholes}
 
 -- a number as a coefficient
 abbrev c : ℤ → Meaning
@@ -24,23 +21,6 @@ c z = listed (number z ∷ [])
 
 abbrev one : Meaning
 one = listed (c (pos 1) ∷ [])
-
-abbrev square : Meaning
-square = listed (listed [] ∷ listed [] ∷ c (pos 1) ∷ [])
-
-abbrev cubic : Meaning
-cubic = listed (listed [] ∷ c (pos 1) ∷ c (negsuc 2) ∷ c (pos 2) ∷ [])
-
--- `k^2`
-abbrev tree_of_square : Tree
-tree_of_square = tree 1 (power_of (tree 0 variable_k) (tree 2 (literal 2)))
-
-square_value : (p : Point) → term_value tree_of_square p ≡ of_whole (pos 1 *ℤ poly_value square p)
-square_value p = ap of_whole (ring_z (p.n ∷ p.k ∷ []) (search reading_z depth 40 fits 20000) refl)
-
-pub squares : Telescopes (term_value tree_of_square) square (plain_claim (pos 6) (pos 1) cubic)
-squares = plain_telescopes (term_value tree_of_square) (pos 6) (pos 1) square cubic square_value
-    (λ p. ring_z (p.n ∷ p.k ∷ []) (search reading_z depth 40 fits 20000) refl) one_not_zero
 
 abbrev form_k : LinearForm
 form_k = record { n_slope = pos 0; k_slope = pos 1; offset = pos 0 }

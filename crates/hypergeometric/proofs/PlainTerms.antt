@@ -16,7 +16,7 @@ use Rattle.hypergeometric.specs.PlainTerm.{plain_term, plain_claim}
 use Rattle.hypergeometric.proofs.FractionLaws.{one_not_zero, equal_wholes}
 use Rattle.hypergeometric.proofs.RangeSums.{ranges_from_points}
 
-natural_power_of_one : (n : ℕ) → natural_power (of_whole (pos 1)) n ≡ of_whole (pos 1)
+pub natural_power_of_one : (n : ℕ) → natural_power (of_whole (pos 1)) n ≡ of_whole (pos 1)
 natural_power_of_one zero = refl
 natural_power_of_one (suc n) = ap (fraction_product (of_whole (pos 1))) (natural_power_of_one n)
 

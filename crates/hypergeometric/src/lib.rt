@@ -1,6 +1,7 @@
-//! Proper hypergeometric terms, trees of terms, recurrences with their certificates: the definitions that contracts cite.
+//! Proper hypergeometric terms, recurrences with their certificates: the definitions that contracts cite.
 //!
-//! `specs/` has the definitions, in this order: Fraction, Point, LinearForm, ProperTerm, Tree, TreePolynomial, TreeValue, Claim, Telescopes.
+//! `specs/` has the definitions, in this order: Fraction, Point, LinearForm, ProperTerm, Claim, Telescopes;
+//! besides, what is said of forms and of their lists alone.
 //! `proofs/` has their laws. The functions here do nothing: the contract of each is a law.
 #![tactic(auto)]
 

@@ -6,14 +6,14 @@ use Rattle.ring_laws.specs.Algebra.{Passing}
 use Rattle.ring_laws.specs.Answer.{OnFault, fault_weaker}
 use Rattle.ring_laws.specs.declared.faults.RingFault.{RingFault}
 use Rattle.poly_laws.specs.Values.{level}
-use Rattle.hypergeometric.specs.LinearForm.{Factor, FactorList}
 use Rattle.poly_laws.specs.Powers.{power_in, nonzero_magnitude, IsBound}
-use Rattle.poly_generic.specs.PowerAnswer.{GivesTimes}
-use Rattle.lin_form.specs.Products.{form_polynomial, forms_polynomial, list_polynomial, forms_counterpart, ListInBounds}
 use Rattle.poly_laws.proofs.PowerBounds.{bounded_product, bounded_self, part_fits}
 use Rattle.poly_laws.proofs.Powers.{product_unit}
 use Rattle.poly_laws.proofs.Squaring.{power_first, magnitude_first}
-use Rattle.lin_form.proofs.FormPolynomials.{laws, o, first, more_than_one, form_in, factor_in, forms_in, forms_first, bound_in, bound_first, counterpart_in, counterpart_first, factor_bounded, counterpart_bounded}
+use Rattle.poly_generic.specs.PowerAnswer.{GivesTimes}
+use Rattle.hypergeometric.specs.LinearForm.{Factor, FactorList}
+use Rattle.hypergeometric.specs.Products.{form_polynomial, forms_polynomial, list_polynomial, forms_counterpart, ListInBounds}
+use Rattle.hypergeometric.proofs.FormPolynomials.{laws, o, first, more_than_one, form_in, factor_in, forms_in, forms_first, bound_in, bound_first, counterpart_in, counterpart_first, factor_bounded, counterpart_bounded}
 
 -- m times the forms from an index on is the whole product, and a bound of m times their counterpart is the whole counterpart
 pub record ListReached (l : FactorList) (m : Meaning) (index : ℕ) : Type 0 where

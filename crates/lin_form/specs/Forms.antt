@@ -1,28 +1,7 @@
--- The linear form that a form of the code stands for, its multiples, and when it is another form at a later k.
-use Rattle.std.specs.Prelude.{◌≡◌, ℕ, ℤ, pos, ◌*ℤ◌, unsigned_abs}
-use Rattle.std.specs.Int.{◌∣◌}
-use Rattle.hypergeometric.specs.Point.{Point, later_k}
-use Rattle.hypergeometric.specs.LinearForm.{LinearForm, form_value}
+-- The linear form that a form of the code stands for.
+use Rattle.hypergeometric.specs.LinearForm.{LinearForm}
+use Rattle.hypergeometric.specs.Forms.{form_with}
 use Rattle.lin_form.specs.declared.forms.LinForm.{LinForm}
-
--- n_slope * n + k_slope * k + offset
-abbrev pub form_with : ℤ → ℤ → ℤ → LinearForm
-form_with n_slope k_slope offset = record { n_slope = n_slope; k_slope = k_slope; offset = offset }
 
 abbrev pub form_of : LinForm → LinearForm
 form_of form = form_with form.n_slope form.k_slope form.offset
-
--- each number of the form times the factor
-abbrev pub multiple : ℤ → LinearForm → LinearForm
-multiple factor f = form_with (factor *ℤ f.n_slope) (factor *ℤ f.k_slope) (factor *ℤ f.offset)
-
--- f at k is g at k + h, at every point
-abbrev pub IsMatchAt : LinearForm → LinearForm → ℕ → Type 0
-IsMatchAt f g h = (p : Point) → form_value f p ≡ form_value g (later_k p (pos h))
-
--- d divides the three numbers, and every number that does divides d
-pub record IsGreatestDivisor (f : LinearForm) (d : ℕ) : Type 0 where
-  pub k_slope : d ∣ unsigned_abs f.k_slope
-  pub n_slope : d ∣ unsigned_abs f.n_slope
-  pub offset : d ∣ unsigned_abs f.offset
-  pub greatest : (c : ℕ) → c ∣ unsigned_abs f.k_slope → c ∣ unsigned_abs f.n_slope → c ∣ unsigned_abs f.offset → c ∣ d

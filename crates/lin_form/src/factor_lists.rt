@@ -2,7 +2,7 @@
 
 ghost use Rattle.hypergeometric.specs.FormOrder.{AreFactors};
 ghost use Rattle.lin_form.specs.FactorLists.{factors_of};
-ghost use Rattle.lin_form.specs.OneProof.{factors_once};
+ghost use Rattle.hypergeometric.specs.OneProof.{factors_once};
 
 use crate::forms::LinForm;
 use crate::products::polynomial_of;
@@ -32,11 +32,11 @@ impl FactorList {
     ghost use Rattle.hypergeometric.specs.FormOrder.{AreFactors, IsSorted};
     ghost use Rattle.hypergeometric.specs.ProperTerm.{poly_value};
     ghost use Rattle.lin_form.specs.Forms.{form_of};
-    ghost use Rattle.lin_form.specs.FactorLists.{factor_with, power_of, with_factor};
+    ghost use Rattle.hypergeometric.specs.FactorLists.{factor_with, power_of, with_factor};
     ghost use Rattle.lin_form.specs.ListOf.{list_of};
     ghost use Rattle.poly_laws.specs.Powers.{power_in, nonzero_magnitude};
     ghost use Rattle.poly_generic.specs.PowerAnswer.{GivesTimes};
-    ghost use Rattle.lin_form.specs.Products.{form_polynomial, list_polynomial, ListInBounds};
+    ghost use Rattle.hypergeometric.specs.Products.{form_polynomial, list_polynomial, ListInBounds};
 
     /// The list of scale 1 and no form. It takes memory only later.
     pub fn new(alloc: Global) -> Result<FactorList, RingFault>

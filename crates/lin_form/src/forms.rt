@@ -23,7 +23,8 @@ impl LinForm {
     ghost use Rattle.hypergeometric.specs.Point.{Point, point, later_n, later_k};
     ghost use Rattle.hypergeometric.specs.LinearForm.{LinearForm, form_value};
     ghost use Rattle.hypergeometric.specs.FormOrder.{IsForm, IsPrimitive, IsPositiveFirst};
-    ghost use Rattle.lin_form.specs.Forms.{form_of, form_with, multiple, IsGreatestDivisor, IsMatchAt};
+    ghost use Rattle.lin_form.specs.Forms.{form_of};
+    ghost use Rattle.hypergeometric.specs.Forms.{form_with, multiple, IsGreatestDivisor, IsMatchAt};
 
     /// The form with these numbers, `None` exactly where a slope is above 64 or the offset above 2^40 in magnitude.
     pub fn new(n_slope: i64, k_slope: i64, offset: i64) -> Option<LinForm>

@@ -4,7 +4,7 @@ ghost use Rattle.std.specs.Prelude.{◌≡◌, ◌≤◌, ◌<◌, ◌^◌, unsi
 ghost use Rattle.ring_laws.specs.Answer.{Gives};
 ghost use Rattle.poly_laws.specs.Values.{level};
 ghost use Rattle.lin_form.specs.Forms.{form_of};
-ghost use Rattle.lin_form.specs.Products.{form_polynomial};
+ghost use Rattle.hypergeometric.specs.Products.{form_polynomial};
 
 use crate::forms::LinForm;
 use poly_generic::{Zn, Znk};

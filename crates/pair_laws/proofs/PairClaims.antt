@@ -6,6 +6,7 @@ use Rattle.ring_solver.proofs.Read.{ring_z, reading_z}
 use Rattle.ring_laws.specs.Meaning.{Meaning}
 use Rattle.poly_laws.specs.Values.{level}
 use Rattle.poly_laws.proofs.Keeps.{value_at_keeps}
+use Rattle.division_laws.specs.Polynomials.{constant}
 use Rattle.hypergeometric.specs.Point.{Point, values_in_n, later_n, later_k}
 use Rattle.hypergeometric.specs.Fraction.{Fraction, ◌≈◌, of_whole, fraction_sum, fraction_difference, fraction_product}
 use Rattle.hypergeometric.specs.LinearForm.{LinearForm}
@@ -13,23 +14,22 @@ use Rattle.hypergeometric.specs.ProperTerm.{ProperTerm, value_in_n}
 use Rattle.hypergeometric.specs.TermFacts.{IsProper}
 use Rattle.hypergeometric.specs.Claim.{Claim, left_side, certificate}
 use Rattle.hypergeometric.specs.Telescopes.{Telescopes, sum_over_range, between_ends}
-use Rattle.term_classes.specs.ClassValues.{HasValue}
-use Rattle.term_classes.proofs.FractionPowers.{fraction_same}
+use Rattle.hypergeometric.specs.TermValue.{HasValue}
+use Rattle.hypergeometric.specs.NaturalRange.{natural_range}
+use Rattle.hypergeometric.proofs.FractionPowers.{fraction_same}
 use Rattle.term_pieces.specs.Pieces.{Pieces, ArePiecesOf, top_at}
 use Rattle.term_pieces.specs.PieceValues.{top_value}
-use Rattle.hypergeometric.specs.NaturalRange.{natural_range}
-use Rattle.division_laws.specs.Polynomials.{constant}
-use Rattle.claim_laws.specs.Identity.{poly_difference}
 use Rattle.term_pieces.specs.Tops.{top_polynomial}
+use Rattle.claim_laws.specs.Identity.{poly_difference}
 use Rattle.claim_laws.specs.Certified.{HasPieces}
-use Rattle.sum_laws.specs.NaturalSums.{Ends, ends_of, natural_sum}
-use Rattle.pair_laws.specs.CertifiedPairs.{pair_of_tops, IsCertifiedPair}
-use Rattle.pair_laws.specs.Pairs.{pair_side, IsPair, PairSumsVanish}
 use Rattle.claim_laws.proofs.CertifiedClaims.{has_fractions, claim_telescopes}
 use Rattle.claim_laws.proofs.IdentityValues.{sum_of_multiples, product_of, difference_of, constant_is, top_is, IdentityAt, identity_at}
+use Rattle.sum_laws.specs.NaturalSums.{Ends, ends_of, natural_sum}
 use Rattle.sum_laws.proofs.NaturalClaims.{natural_sums_vanish}
 use Rattle.sum_laws.proofs.NaturalEnds.{GiveEnds}
 use Rattle.sum_laws.proofs.NaturalRanges.{natural_ends}
+use Rattle.pair_laws.specs.CertifiedPairs.{pair_of_tops, IsCertifiedPair}
+use Rattle.pair_laws.specs.Pairs.{pair_side, IsPair, PairSumsVanish}
 
 -- the recurrence -a Q(n,k) + a Q(n+1,k)
 abbrev pub pair_recurrence : Meaning → Claim → Claim

@@ -5,7 +5,7 @@ use Rattle.ring_laws.specs.Meaning.{Meaning}
 use Rattle.hypergeometric.specs.Point.{Point}
 use Rattle.hypergeometric.specs.Fraction.{Fraction, of_whole}
 use Rattle.hypergeometric.specs.Claim.{Claim}
-use Rattle.term_classes.specs.Divisors.{lowest_terms}
+use Rattle.hypergeometric.specs.Divisors.{lowest_terms}
 use Rattle.pair_laws.specs.Companion.{Box, IsInBox, HasPoints, IsClearAt, IsClearBox, left_sum, right_sum}
 
 -- what is said of a box: two sums, or a point

@@ -13,7 +13,7 @@ ghost use Rattle.hypergeometric.specs.LinearForm.{LinearForm};
 ghost use Rattle.hypergeometric.specs.ProperTerm.{ProperTerm};
 ghost use Rattle.hypergeometric.specs.TermFacts.{IsProper};
 ghost use Rattle.hypergeometric.specs.Claim.{Claim};
-ghost use Rattle.term_classes.specs.ClassValues.{HasValue};
+ghost use Rattle.hypergeometric.specs.TermValue.{HasValue};
 ghost use Rattle.term_pieces.specs.Pieces.{Pieces, ArePiecesOf};
 ghost use Rattle.hypergeometric.specs.NaturalRange.{natural_range};
 ghost use Rattle.sum_laws.specs.NaturalSums.{ends_of};

@@ -3,17 +3,17 @@ use Rattle.std.specs.Prelude.{◌≡◌, ℤ, pos, List, [], ◌∷◌, refl}
 use Rattle.std.proofs.Common.{ap, sym, ◌∙◌, arith}
 use Rattle.ring_laws.specs.Algebra.{same_passing}
 use Rattle.poly_laws.specs.Values.{level}
-use Rattle.hypergeometric.specs.LinearForm.{LinearForm, Factor, FactorList}
-use Rattle.lin_form.specs.FactorLists.{factor_with}
-use Rattle.lin_form.specs.Products.{form_polynomial}
-use Rattle.lin_form.proofs.FormPolynomials.{form_passes}
-use Rattle.term_pieces.specs.Products.{IsProductOf}
-use Rattle.normal_forms.specs.NormalForm.{IsWithout}
 use Rattle.division_laws.specs.Polynomials.{Polynomial}
+use Rattle.hypergeometric.specs.LinearForm.{LinearForm, Factor, FactorList}
+use Rattle.hypergeometric.specs.FactorLists.{factor_with}
+use Rattle.hypergeometric.specs.Products.{form_polynomial}
+use Rattle.hypergeometric.proofs.FormPolynomials.{form_passes}
+use Rattle.term_pieces.specs.Products.{IsProductOf}
+use Rattle.term_pieces.specs.NormalForm.{IsWithout}
+use Rattle.term_pieces.proofs.SamePowers.{power_joined}
 use Rattle.pole_laws.specs.Cancelled.{IsCancelled}
 use Rattle.pole_laws.proofs.FormProducts.{in_k_ring, forms_in_k, joined_forms}
 use Rattle.pole_laws.proofs.NormalPolynomials.{in_k}
-use Rattle.normal_forms.proofs.SamePowers.{power_joined}
 
 abbrev pub form_in_k : LinearForm → Polynomial (level 1)
 form_in_k f = (form_polynomial f, form_passes f)

@@ -6,22 +6,22 @@ use Rattle.poly_laws.specs.Values.{level}
 use Rattle.poly_laws.proofs.Equal.{level_laws}
 use Rattle.poly_laws.proofs.Keeps.{value_at_keeps}
 use Rattle.poly_laws.proofs.ListLaws.{product_nought, nought_product, neg_nought}
+use Rattle.division_laws.specs.Polynomials.{Polynomial}
+use Rattle.kernel_laws.specs.Answers.{Vector, meant}
+use Rattle.key_laws.specs.KeyEquation.{meanings, KeyEquation, combination}
+use Rattle.key_laws.specs.Certificates.{CertificateIdentity}
+use Rattle.key_laws.proofs.Polynomials.{difference_in, combination_in, combination_is}
+use Rattle.key_laws.proofs.Poles.{combination_times, poles_left}
 use Rattle.hypergeometric.specs.Point.{values, later_k}
 use Rattle.hypergeometric.specs.LinearForm.{Factor, FactorList}
 use Rattle.hypergeometric.specs.FormOrder.{IsSorted}
-use Rattle.lin_form.specs.Products.{list_polynomial}
-use Rattle.normal_forms.specs.NormalForm.{Normal, gosper_forms, IsNormalFormOf}
-use Rattle.kernel_laws.specs.Answers.{Vector, meant}
-use Rattle.division_laws.specs.Polynomials.{Polynomial}
-use Rattle.key_laws.specs.KeyEquation.{meanings, KeyEquation, combination}
-use Rattle.key_laws.proofs.Polynomials.{difference_in, combination_in, combination_is}
-use Rattle.key_laws.proofs.Poles.{combination_times, poles_left}
+use Rattle.hypergeometric.specs.Products.{list_polynomial}
+use Rattle.term_pieces.specs.NormalForm.{Normal, gosper_forms, IsNormalFormOf}
+use Rattle.term_pieces.proofs.NormalValues.{g_value}
 use Rattle.pole_laws.specs.Cancelled.{of_forms, IsCancelled}
-use Rattle.key_laws.specs.Certificates.{CertificateIdentity}
 use Rattle.pole_laws.specs.Orders.{sides_of}
 use Rattle.pole_laws.proofs.Domains.{in_n_domain}
 use Rattle.pole_laws.proofs.FormProducts.{in_k_ring, no_divisors, forms_in_k, some_gosper}
-use Rattle.normal_forms.proofs.NormalValues.{g_value}
 use Rattle.pole_laws.proofs.NormalPolynomials.{in_k, shift_by, list_in, same_polynomials, shift_at, value_of, forms_alone, without_product, above, below, of_q, of_r, of_chains, of_next}
 
 pub sides_in : (g : Polynomial (level 1)) (tops : List (Polynomial (level 1)))

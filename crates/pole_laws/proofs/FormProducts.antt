@@ -10,13 +10,14 @@ use Rattle.poly_laws.proofs.ListLaws.{product_nought, nought_product}
 use Rattle.poly_laws.proofs.OneQuotient.{NoDivisors}
 use Rattle.poly_laws.proofs.PolyDomain.{no_divisors_within, poly_domain}
 use Rattle.poly_laws.proofs.PolyLaws.{poly_ring}
-use Rattle.hypergeometric.specs.Point.{later_k}
-use Rattle.hypergeometric.specs.LinearForm.{LinearForm, Factor}
-use Rattle.lin_form.specs.FactorLists.{factor_with}
-use Rattle.term_pieces.proofs.FormValues.{later_k_value, joined_value, lone_value}
-use Rattle.normal_forms.specs.NormalForm.{Match, at_earlier_k, form_above, matched, forms_before, gosper_forms}
 use Rattle.division_laws.specs.Polynomials.{Polynomial}
 use Rattle.division_laws.proofs.Shifts.{later_nought}
+use Rattle.hypergeometric.specs.Point.{later_k}
+use Rattle.hypergeometric.specs.LinearForm.{LinearForm, Factor}
+use Rattle.hypergeometric.specs.FactorLists.{factor_with}
+use Rattle.hypergeometric.specs.Match.{Match}
+use Rattle.term_pieces.specs.NormalForm.{at_earlier_k, form_above, matched, forms_before, gosper_forms}
+use Rattle.term_pieces.proofs.FormValues.{later_k_value, joined_value, lone_value}
 use Rattle.pole_laws.specs.Cancelled.{of_forms}
 use Rattle.pole_laws.proofs.Domains.{in_n_domain}
 use Rattle.pole_laws.proofs.NormalPolynomials.{in_k, shift_by, list_in, same_polynomials, product_at, shift_at, forms_alone}

@@ -6,8 +6,8 @@ use Rattle.kernel_laws.specs.Rows.{entry_at}
 use Rattle.hypergeometric.specs.Point.{point}
 use Rattle.hypergeometric.specs.LinearForm.{FactorList}
 use Rattle.hypergeometric.specs.ProperTerm.{ProperTerm}
-use Rattle.lin_form.specs.FactorLists.{factor_with}
-use Rattle.term_classes.specs.Forms.{with_numbers}
+use Rattle.hypergeometric.specs.FactorLists.{factor_with}
+use Rattle.hypergeometric.specs.Forms.{form_with}
 use Rattle.term_pieces.specs.Pieces.{Top}
 use Rattle.pole_laws.specs.Orders.{tops_of, pair_top}
 use Rattle.pole_laws.specs.CertificateValues.{HoldsAt}
@@ -40,11 +40,11 @@ known_point_over_a_pole = refl
 abbrev top : ℕ → Top
 top zero = record {
   poly = listed (in_n 1 ∷ []);
-  factors = record { scale = negsuc 0; factors = factor_with (with_numbers (negsuc 0) (pos 1) (negsuc 0)) 1 ∷ [] };
+  factors = record { scale = negsuc 0; factors = factor_with (form_with (negsuc 0) (pos 1) (negsuc 0)) 1 ∷ [] };
 }
 top (suc j) = record {
   poly = listed (in_n 1 ∷ []);
-  factors = record { scale = pos 1; factors = factor_with (with_numbers (pos 1) (pos 0) (pos 1)) 1 ∷ [] };
+  factors = record { scale = pos 1; factors = factor_with (form_with (pos 1) (pos 0) (pos 1)) 1 ∷ [] };
 }
 
 -- the two polynomials of the order 1

@@ -5,12 +5,12 @@ use Rattle.ring_laws.specs.Algebra.{same_passing}
 use Rattle.poly_laws.specs.Values.{level}
 use Rattle.poly_laws.proofs.Equal.{level_laws}
 use Rattle.poly_laws.proofs.ListLaws.{nought_product}
-use Rattle.hypergeometric.specs.LinearForm.{Factor, FactorList}
-use Rattle.hypergeometric.specs.FormOrder.{IsSorted}
-use Rattle.lin_form.specs.Products.{list_polynomial}
-use Rattle.normal_forms.specs.NormalForm.{Normal, form_above, form_below, matched, IsWithout, IsNormalFormOf}
 use Rattle.division_laws.specs.Polynomials.{Polynomial, at_previous}
 use Rattle.division_laws.proofs.Shifts.{later_nought}
+use Rattle.hypergeometric.specs.LinearForm.{Factor, FactorList}
+use Rattle.hypergeometric.specs.FormOrder.{IsSorted}
+use Rattle.hypergeometric.specs.Products.{list_polynomial}
+use Rattle.term_pieces.specs.NormalForm.{Normal, form_above, form_below, matched, IsWithout, IsNormalFormOf}
 use Rattle.pole_laws.specs.Cancelled.{of_forms}
 use Rattle.pole_laws.proofs.FormProducts.{in_k_ring}
 use Rattle.pole_laws.proofs.NormalPolynomials.{in_k, shift_by, list_in, without_product}

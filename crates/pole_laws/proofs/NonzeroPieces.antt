@@ -9,16 +9,16 @@ use Rattle.poly_laws.specs.Values.{level}
 use Rattle.poly_laws.proofs.Equal.{level_laws}
 use Rattle.poly_laws.proofs.Keeps.{value_at_keeps}
 use Rattle.poly_laws.proofs.PolyDomain.{poly_domain}
+use Rattle.division_laws.specs.Polynomials.{Polynomial}
 use Rattle.hypergeometric.specs.Point.{Point, point, values}
 use Rattle.hypergeometric.specs.LinearForm.{LinearForm, Factor, FactorList, form_value}
 use Rattle.hypergeometric.specs.ProperTerm.{ProperTerm, HasFractions, poly_value}
-use Rattle.lin_form.specs.FactorLists.{factor_with}
-use Rattle.lin_form.specs.Products.{list_polynomial}
+use Rattle.hypergeometric.specs.FactorLists.{factor_with}
+use Rattle.hypergeometric.specs.Products.{list_polynomial}
 use Rattle.term_pieces.specs.Products.{IsProductOf}
 use Rattle.term_pieces.specs.Pieces.{Pieces, q_forms, r_forms, ArePiecesOf}
 use Rattle.term_pieces.proofs.FormValues.{lone_value}
 use Rattle.term_pieces.proofs.ProductValues.{product_value}
-use Rattle.division_laws.specs.Polynomials.{Polynomial}
 use Rattle.pole_laws.proofs.Domains.{in_n_domain}
 use Rattle.pole_laws.proofs.FormProducts.{forms_in_k, joined_forms, unit_some, not_product}
 use Rattle.pole_laws.proofs.FormsWithK.{HaveK, q_forms_k, r_forms_k}

@@ -2,25 +2,24 @@
 -- for the products A of the s(k) and B of the s(k-h-1) over the matches.
 use Rattle.std.specs.Prelude.{◌≡◌, ℤ, pos, negsuc, ◌+ℤ◌, ◌*ℤ◌, List, [], ◌∷◌, length, refl}
 use Rattle.std.proofs.Common.{ap, sym, ◌∙◌, arith}
-use Rattle.ring_laws.specs.Algebra.{Ops}
 use Rattle.ring_solver.proofs.Read.{ring_z, reading_z}
+use Rattle.ring_laws.specs.Algebra.{Ops}
 use Rattle.poly_laws.specs.Values.{value_at, level}
 use Rattle.poly_laws.proofs.Equal.{level_laws, same_values}
 use Rattle.poly_laws.proofs.Keeps.{value_at_keeps}
 use Rattle.poly_laws.proofs.ShiftLaws.{value_at_shift}
+use Rattle.division_laws.specs.Polynomials.{Polynomial, at_previous, at_next}
+use Rattle.division_laws.proofs.Polynomials.{polynomials, shifted_in}
 use Rattle.hypergeometric.specs.Point.{Point, point, values, values_in_n, later_k}
 use Rattle.hypergeometric.specs.LinearForm.{Factor, FactorList, forms_value, factor_list_value}
 use Rattle.hypergeometric.specs.FormOrder.{IsSorted}
 use Rattle.hypergeometric.specs.ProperTerm.{poly_value}
-use Rattle.lin_form.specs.Products.{list_polynomial}
-use Rattle.lin_form.proofs.FormPolynomials.{list_passes}
-use Rattle.lin_form.proofs.ListValues.{list_at}
-use Rattle.normal_forms.specs.NormalForm.{Normal, form_above, form_below, matched, IsWithout, IsNormalFormOf}
-use Rattle.division_laws.specs.Polynomials.{Polynomial, at_previous, at_next}
-use Rattle.division_laws.proofs.Polynomials.{polynomials, shifted_in}
+use Rattle.hypergeometric.specs.Products.{list_polynomial}
+use Rattle.hypergeometric.proofs.FormPolynomials.{list_passes}
+use Rattle.hypergeometric.proofs.ListValues.{list_at}
+use Rattle.term_pieces.specs.NormalForm.{Normal, form_above, form_below, matched, IsWithout, IsNormalFormOf}
+use Rattle.term_pieces.proofs.NormalValues.{without_value, r_value, g_value, poles_value, chains_below as product_below, chains_next as product_next}
 use Rattle.pole_laws.specs.Cancelled.{of_forms}
-use Rattle.normal_forms.proofs.NormalValues.{without_value, r_value, g_value, poles_value}
-use Rattle.normal_forms.proofs.NormalValues.{chains_below as product_below, chains_next as product_next}
 
 -- the polynomials in k over those in n, and a shift by a number
 abbrev pub in_k : Ops (Polynomial (level 1))

@@ -2,12 +2,12 @@
 use Rattle.std.specs.Prelude.{ℕ, suc, List, [], ◌∷◌, map}
 use Rattle.ring_laws.specs.Meaning.{Meaning}
 use Rattle.poly_laws.specs.Values.{level}
-use Rattle.lin_form.specs.Products.{list_polynomial}
-use Rattle.term_pieces.specs.Pieces.{Pieces, top_at}
-use Rattle.term_pieces.specs.Tops.{top_polynomial}
-use Rattle.normal_forms.specs.NormalForm.{Normal}
 use Rattle.key_laws.specs.KeyEquation.{Insoluble}
 use Rattle.key_laws.specs.KeyRows.{listing}
+use Rattle.hypergeometric.specs.Products.{list_polynomial}
+use Rattle.term_pieces.specs.Pieces.{Pieces, top_at}
+use Rattle.term_pieces.specs.Tops.{top_polynomial}
+use Rattle.term_pieces.specs.NormalForm.{Normal}
 
 -- p_0, .., p_J
 abbrev pub tops_of : Pieces → ℕ → List Meaning

@@ -2,6 +2,7 @@ pub mod Lists
 pub mod PolyAlgebra
 pub mod Bounds
 pub mod Values
+pub mod TwoVariables
 pub mod Shift
 pub mod LongDivision
 pub mod Evaluation

@@ -7,7 +7,7 @@ use Rattle.ring_solver.proofs.Read.{ring_z, reading_z}
 use Rattle.hypergeometric.specs.LinearForm.{LinearForm}
 use Rattle.hypergeometric.specs.FormOrder.{IsPrimitive}
 use Rattle.hypergeometric.specs.TermFacts.{IsNumber, IsLowest, IsNotConstant}
-use Rattle.lin_form.specs.Forms.{form_with, multiple}
+use Rattle.hypergeometric.specs.Forms.{form_with, multiple}
 use Rattle.proper_term.specs.Fields.{number_fraction}
 
 -- the greatest common divisor tells lowest terms

@@ -1,16 +1,14 @@
 -- Values of the definitions that are worked out by hand.
-use Rattle.std.proofs.Common.{◌≡◌, refl, List, [], ◌∷◌, false, Some, None}
+use Rattle.std.proofs.Common.{◌≡◌, refl, List, [], ◌∷◌, Some, None}
 use Rattle.std.specs.Prelude.{pos, negsuc}
 use Rattle.ring_laws.specs.Meaning.{Meaning, number, listed}
 use Rattle.hypergeometric.specs.Point.{point}
 use Rattle.hypergeometric.specs.LinearForm.{LinearForm}
-use Rattle.hypergeometric.specs.Tree.{Tree, tree, literal, variable_n, variable_k, sum_of, power_of, factorial_of, no_parts, part}
-use Rattle.lin_form.specs.Forms.{form_with}
-use Rattle.lin_form.specs.FactorLists.{factor_with}
+use Rattle.hypergeometric.specs.Forms.{form_with}
+use Rattle.hypergeometric.specs.FactorLists.{factor_with}
+use Rattle.hypergeometric.specs.NaturalRange.{natural_range}
 use Rattle.proper_term.specs.Cancelled.{Argument, arguments_at, left_over, quotient, quotients}
 use Rattle.proper_term.specs.Fields.{number_fraction}
-use Rattle.proper_term.specs.NamesOfK.{k_places}
-use Rattle.hypergeometric.specs.NaturalRange.{natural_range}
 use Rattle.proper_term.specs.ValueBounds.{size_at, base_power, divisors}
 
 -- the forms k, n - k and n
@@ -51,14 +49,6 @@ pub ranges : (natural_range (factor_with form_k 1 ∷ factor_with form_other 1 �
     × (natural_range (factor_with (form_with (pos 2) (pos 1) (pos 3)) 1 ∷ factor_with form_k 1 ∷ factor_with form_other 1 ∷ [])
     ≡ Some (form_with (negsuc 1) (pos 0) (negsuc 2), form_with (pos 1) (pos 0) (pos 0))) × (natural_range (factor_with form_k 1 ∷ []) ≡ None)
 ranges = (refl, refl, refl)
-
--- `k!+2^k`
-abbrev sum_of_k : Tree
-sum_of_k = tree 2 (sum_of (part false (tree 1 (factorial_of (tree 0 variable_k)))
-    (part false (tree 4 (power_of (tree 3 (literal 2)) (tree 5 variable_k))) no_parts)))
-
-pub places : (k_places sum_of_k ≡ 0 ∷ 5 ∷ []) × (k_places (tree 1 (factorial_of (tree 0 variable_n))) ≡ [])
-places = (refl, refl)
 
 -- 1 - 2n + 3nk at (-2, -5) has the size 1 + 4 + 30
 abbrev poly : Meaning

@@ -1,21 +1,20 @@
 pub mod CancelledFactorials
-pub mod DivisorRuns
 pub mod FactTests
 pub mod FactorialProducts
-pub mod FactorialRuns
 pub mod Faults
 pub mod FieldPolynomials
 pub mod FormValues
 mod KnownTerms
-pub mod LeastPlaces
 pub mod ListItems
 pub mod NextArguments
 pub mod NumbersLeft
 pub mod PolynomialSizes
-pub mod PowerFractions
 pub mod Runs
+pub mod DivisorRuns
+pub mod FactorialRuns
 pub mod UnitDivisors
 pub mod ValueProducts
-pub mod ValueRuns
 pub mod WholePowers
+pub mod PowerFractions
+pub mod ValueRuns
 pub mod ZeroValues

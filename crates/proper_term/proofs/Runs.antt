@@ -1,9 +1,10 @@
 -- Runs of products: how they join, where they end, and which product they give.
-use Rattle.std.proofs.Common.{◌≡◌, refl, ap, sym, ◌∙◌, subst, List, [], ◌∷◌, ◌++◌}
+use Rattle.std.proofs.Common.{◌≡◌, refl, sym, ◌∙◌, subst, List, [], ◌∷◌, ◌++◌}
 use Rattle.std.specs.Prelude.{ℤ, pos, ◌*ℤ◌}
 use Rattle.ring_solver.proofs.Read.{ring_z, reading_z}
 use Rattle.hypergeometric.specs.Fraction.{Fraction, IsDefined, ◌≈◌, of_whole, fraction_product}
 use Rattle.hypergeometric.proofs.FractionLaws.{one_not_zero, product_not_zero, equal_to_itself, equal_chain, equal_products}
+use Rattle.hypergeometric.proofs.DefinedValues.{right_defined}
 use Rattle.proper_term.specs.Runs.{IsInLowestTerms, RunsInBounds, Runs, product_of}
 
 -- one run after another
@@ -68,18 +69,6 @@ one_after f d = record {
     cross : (a b : ℤ) → a *ℤ (b *ℤ pos 1) ≡ (a *ℤ pos 1) *ℤ b
     cross a b = ring_z (a ∷ b ∷ []) (search reading_z depth 40 fits 20000) refl
 
-pub right_factor_defined : (f g : Fraction) → IsDefined (fraction_product f g) → IsDefined g
-right_factor_defined f g d e = d (ap (λ b. f.bottom *ℤ b) e ∙ nothing f.bottom)
-  where
-    nothing : (b : ℤ) → b *ℤ pos 0 ≡ pos 0
-    nothing b = ring_z (b ∷ []) (search reading_z depth 40 fits 20000) refl
-
-pub left_factor_defined : (f g : Fraction) → IsDefined (fraction_product f g) → IsDefined f
-left_factor_defined f g d e = d (ap (λ b. b *ℤ g.bottom) e ∙ nothing g.bottom)
-  where
-    nothing : (b : ℤ) → pos 0 *ℤ b ≡ pos 0
-    nothing b = ring_z (b ∷ []) (search reading_z depth 40 fits 20000) refl
-
 pub one_before : (f : Fraction) → IsDefined f → f ≈ fraction_product (of_whole (pos 1)) f
 one_before f d = record {
   left_defined = d;
@@ -95,7 +84,7 @@ pub run_value : (r : Fraction) (xs : List Fraction) (s : Fraction) → Runs r xs
 run_value r [] s h d = subst (λ u. u ≈ fraction_product r (of_whole (pos 1))) h (one_after r d)
 run_value r (x ∷ xs) s h d =
     let rest : s ≈ fraction_product h.0 (product_of xs) = run_value h.0 xs s h.2 h.1.same.left_defined in
-    let others : IsDefined (product_of xs) = right_factor_defined h.0 (product_of xs) rest.right_defined in
+    let others : IsDefined (product_of xs) = right_defined h.0 (product_of xs) rest.right_defined in
     let whole : fraction_product h.0 (product_of xs) ≈ fraction_product (fraction_product r x) (product_of xs) =
     equal_products h.1.same (equal_to_itself (product_of xs) others) in
     equal_chain rest (equal_chain whole (grouped r x (product_of xs) whole.right_defined))

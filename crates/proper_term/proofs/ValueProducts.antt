@@ -8,17 +8,18 @@ use Rattle.hypergeometric.specs.LinearForm.{Factor, form_value, factorial_value,
 use Rattle.hypergeometric.specs.ProperTerm.{ProperTerm, NoneNegative, NoneZero, IsDefinedAt, IsNonzero, HasFractions, poly_value, proper_value}
 use Rattle.hypergeometric.proofs.Definedness.{natural_power_defined, proper_value_defined}
 use Rattle.hypergeometric.proofs.FractionLaws.{one_not_zero, product_not_zero, equal_to_itself, equal_turned, equal_chain, equal_products}
+use Rattle.hypergeometric.proofs.DefinedValues.{left_defined, right_defined}
 use Rattle.proper_term.specs.Runs.{product_of}
 use Rattle.proper_term.specs.ValueBounds.{turned, base_power, divisors, factorial_factors, value_factors}
-use Rattle.proper_term.proofs.Runs.{grouped, right_factor_defined, left_factor_defined, one_before}
+use Rattle.proper_term.proofs.Runs.{grouped, one_before}
 use Rattle.proper_term.proofs.FactorialProducts.{factorials_kept}
 
 product_joined : (xs ys : List Fraction) → IsDefined (product_of xs) → IsDefined (product_of ys)
     → product_of (xs ++ ys) ≈ fraction_product (product_of xs) (product_of ys)
 product_joined [] ys d e = one_before (product_of ys) e
 product_joined (x ∷ xs) ys d e =
-    let here = left_factor_defined x (product_of xs) d in
-    let rest = product_joined xs ys (right_factor_defined x (product_of xs) d) e in
+    let here = left_defined x (product_of xs) d in
+    let rest = product_joined xs ys (right_defined x (product_of xs) d) e in
     equal_chain (equal_products (equal_to_itself x here) rest)
     (equal_turned (grouped x (product_of xs) (product_of ys) (product_not_zero _ _ d e)))
 
@@ -91,9 +92,9 @@ inner_defined s p a b u o l d =
     let within_a = fraction_product b within_b in
     let within_p = fraction_product a within_a in
     let within_s = fraction_product p within_p in
-    let e = right_factor_defined b within_b (right_factor_defined a within_a (right_factor_defined p within_p (right_factor_defined s within_s d))) in
-    product_not_zero u.bottom o.bottom (left_factor_defined u (fraction_product o l) e)
-    (left_factor_defined o l (right_factor_defined u (fraction_product o l) e))
+    let e = right_defined b within_b (right_defined a within_a (right_defined p within_p (right_defined s within_s d))) in
+    product_not_zero u.bottom o.bottom (left_defined u (fraction_product o l) e)
+    (left_defined o l (right_defined u (fraction_product o l) e))
 
 pub factors_value : (f : ProperTerm) (p : Point) → HasFractions f → IsDefinedAt f p → NoneNegative f.down p
     → fraction_product f.scale (product_of (value_factors f p)) ≈ proper_value f p

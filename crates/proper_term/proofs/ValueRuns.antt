@@ -10,17 +10,16 @@ use Rattle.hypergeometric.specs.Point.{Point}
 use Rattle.hypergeometric.specs.Fraction.{Fraction, ◌≈◌, fraction_product, natural_power}
 use Rattle.hypergeometric.specs.ProperTerm.{ProperTerm, IsDefinedAt, NoneNegative, IsNonzero, HasFractions, proper_value}
 use Rattle.hypergeometric.specs.TermFacts.{IsLowest, IsProper}
-use Rattle.hypergeometric.proofs.FractionLaws.{product_not_zero, equal_chain}
+use Rattle.hypergeometric.proofs.FractionLaws.{product_not_zero, equal_chain, pow_not_zero}
 use Rattle.proper_term.specs.Cancelled.{arguments_at, left_over}
-use Rattle.proper_term.proofs.CancelledFactorials.{left_over_positive}
 use Rattle.proper_term.specs.Fields.{whole_fraction}
 use Rattle.proper_term.specs.Runs.{IsInLowestTerms, Runs, GivesRun, product_of}
 use Rattle.proper_term.specs.ValueBounds.{turned, base_power, factorial_factors, value_factors, IsRunInBounds}
+use Rattle.proper_term.proofs.CancelledFactorials.{left_over_positive}
 use Rattle.proper_term.proofs.PowerFractions.{power_parts}
 use Rattle.proper_term.proofs.Runs.{runs_join, bounds_after, run_value, run_lowest}
 use Rattle.proper_term.proofs.FactorialProducts.{product_quotients}
 use Rattle.proper_term.proofs.ValueProducts.{factors_value}
-use Rattle.proper_term.proofs.WholePowers.{pow_not_zero}
 
 -- one run and then the next
 pub run_then : {T : Type 0} (fraction : T → RingFraction) (r : Fraction) (xs : List Fraction) (s : Fraction) (ys : List Fraction)

@@ -6,16 +6,11 @@ use Rattle.std.proofs.Math.Nat.{mul-le-mul_left}
 use Rattle.std.proofs.lemmas.Int.{ints, unsigned_abs-mul}
 use Rattle.std.specs.Prelude.{ℤ, pos, negsuc, ◌*ℤ◌, unsigned_abs}
 use Rattle.ring_solver.proofs.Read.{ring_z, reading_z}
-use Rattle.hypergeometric.proofs.FractionLaws.{one_not_zero, product_not_zero}
 use Rattle.hypergeometric.specs.TermFacts.{IsNumber}
+use Rattle.hypergeometric.proofs.FractionLaws.{pow_not_zero}
 
 pub pow_next : (z : ℤ) (n : ℕ) → pow z (suc n) ≡ z *ℤ pow z n
 pow_next z n = pow-succ' z n
-
-pub pow_not_zero : (z : ℤ) (n : ℕ) → z ≢ pos 0 → pow z n ≢ pos 0
-unfolding pow one
-pow_not_zero z zero h e = one_not_zero e
-pow_not_zero z (suc n) h e = product_not_zero z (pow z n) h (pow_not_zero z n h) (sym (pow_next z n) ∙ e)
 
 -- one more factor
 pub one_more : (product base whole : ℤ) (left : ℕ) → 0 < left → product *ℤ pow base left ≡ whole → (product *ℤ base) *ℤ pow base (left - 1) ≡ whole

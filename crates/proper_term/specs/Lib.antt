@@ -2,7 +2,6 @@ pub mod Fields
 pub mod OneProof
 pub mod TermOf
 pub mod Points
-pub mod NamesOfK
 pub mod Runs
 pub mod Cancelled
 pub mod Cursors

@@ -10,7 +10,7 @@ use Rattle.hypergeometric.specs.LinearForm.{LinearForm, FactorList}
 use Rattle.hypergeometric.specs.FormOrder.{IsPositiveFirst, IsPrimitive}
 use Rattle.hypergeometric.specs.TermFacts.{IsPolynomial, IsLowest, IsNotConstant, IsProper}
 use Rattle.hypergeometric.specs.ProperTerm.{ProperTerm}
-use Rattle.lin_form.specs.OneProof.{factors_once}
+use Rattle.hypergeometric.specs.OneProof.{factors_once}
 use Rattle.proper_term.specs.Fields.{HaveUnitScales}
 
 -- the three cases of a positive first number exclude each other

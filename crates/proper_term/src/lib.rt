@@ -1,10 +1,10 @@
-//! Proper hypergeometric terms: `Proper`, their values at points, their natural range, and the places of k in a tree.
+//! Proper hypergeometric terms: `Proper`, their values at points and their natural range.
 //!
-//! Input: a polynomial, fractions and lists of forms, or a tree. Output: a `Proper`, which keeps the facts of every proper term, and
+//! Input: a polynomial, fractions and lists of forms. Output: a `Proper`, which keeps the facts of every proper term, and
 //! its value at a point, or none exactly where it isn't defined. What a term stands for is `term_of` in `specs/TermOf.antt`, its
-//! facts are hypergeometric's `IsProper`, when a value is in bounds is in `specs/ValueBounds.antt`; `specs/NamesOfK.antt` says where k
-//! stands in a tree, and `specs/NaturalRange.antt` what the natural range is.
-//! Read `proper.rt` (the type) with `facts.rt` (its facts as tests), `names_of_k.rt` and `range.rt`; then `values.rt` (the value from
+//! facts are hypergeometric's `IsProper`, when a value is in bounds is in `specs/ValueBounds.antt`, and
+//! in hypergeometric's `specs/NaturalRange.antt` what the natural range is.
+//! Read `proper.rt` (the type) with `facts.rt` (its facts as tests) and `range.rt`; then `values.rt` (the value from
 //! its factors), `point.rt` (where a term is defined), `arguments.rt`, `cursor.rt` and `factorials.rt` (what is left of the factorials),
 //! `polynomial.rt` and `running.rt` (the running fraction).
 #![tactic(auto)]
@@ -14,7 +14,6 @@ mod arguments;
 mod cursor;
 mod factorials;
 mod facts;
-mod names_of_k;
 mod point;
 mod polynomial;
 mod proper;
@@ -26,7 +25,6 @@ mod term_tests;
 mod tests;
 mod values;
 
-pub use names_of_k::free_of_k;
 pub use proper::Proper;
 pub use range::natural;
 pub use values::value;

@@ -1,7 +1,8 @@
 //! The natural range of a term.
 
 ghost use Rattle.std.specs.Prelude.{◌≡◌, ◌≤◌, ◌^◌, pos, unsigned_abs, MatchOption, Some, None};
-ghost use Rattle.lin_form.specs.Forms.{form_of, form_with};
+ghost use Rattle.lin_form.specs.Forms.{form_of};
+ghost use Rattle.hypergeometric.specs.Forms.{form_with};
 ghost use Rattle.lin_form.specs.ListOf.{list_of};
 ghost use Rattle.hypergeometric.specs.NaturalRange.{first_with_slope, natural_range};
 ghost use Rattle.proper_term.specs.TermOf.{term_of};

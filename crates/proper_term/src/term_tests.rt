@@ -1,11 +1,10 @@
-//! The facts of terms, their natural ranges, and the places of k.
+//! The facts of terms and their natural ranges.
 
 use crate::tests::{Factor, fraction, list_of, poly_of, term_of, whole};
-use crate::{Proper, free_of_k, natural};
+use crate::{Proper, natural};
 use ring_laws::RingFault;
 use std::alloc::Global;
 use std::test::Fail;
-use term_text::read_term;
 
 // A term with one field changed.
 fn made(
@@ -75,29 +74,4 @@ fn natural_ranges(rt: HostRuntime) -> Result<(), Fail> {
         assert_eq!(rt; range_of(&term), range);
     }
     Ok(())
-}
-
-// The place of k in the tree of a text that has one.
-fn place_in(alloc: Global, text: &[u8]) -> Option<Option<u32>> {
-    if text.len() > 65_536 {
-        return None;
-    }
-    match read_term(alloc, text) {
-        Ok(tree) => Some(free_of_k(&tree)),
-        Err(_) => None,
-    }
-}
-
-#[test]
-fn places_of_k(rt: HostRuntime) {
-    let texts: [(&[u8], Option<u32>); 5] = [
-        (b"n!+2", None),
-        (b"n+k*k", Some(2)),
-        (b"binomial(n,k)", Some(11)),
-        (b"2^(n-k)", Some(5)),
-        (b"k!^2", Some(0)),
-    ];
-    for (text, place) in texts {
-        assert_eq!(rt; place_in(rt.alloc(), text), Some(place));
-    }
 }

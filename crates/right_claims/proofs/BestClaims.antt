@@ -6,23 +6,23 @@ use Rattle.std.specs.Prelude.{◌⊎◌, pos, ◌<ℤ◌}
 use Rattle.ring_laws.specs.Meaning.{Meaning}
 use Rattle.ring_laws.specs.Algebra.{Ops, Passing}
 use Rattle.poly_laws.specs.Values.{level}
-use Rattle.hypergeometric.specs.LinearForm.{LinearForm}
-use Rattle.hypergeometric.specs.FormOrder.{IsSorted}
-use Rattle.hypergeometric.specs.Claim.{Claim}
-use Rattle.lin_form.specs.FactorLists.{power_of}
-use Rattle.lin_form.specs.Products.{list_polynomial}
-use Rattle.term_pieces.specs.Pieces.{Pieces}
-use Rattle.normal_forms.specs.NormalForm.{Normal}
+use Rattle.division_laws.specs.Polynomials.{Polynomial}
 use Rattle.kernel_laws.specs.Rows.{entry_at}
 use Rattle.kernel_laws.specs.RowSteps.{HasQuotient}
-use Rattle.poly_divide.specs.Forms.{linear}
-use Rattle.reducing.specs.FactorLists.{laws, linear_is_factor}
-use Rattle.reducing.specs.PolynomialRows.{lead_number}
-use Rattle.division_laws.specs.Polynomials.{Polynomial}
 use Rattle.key_laws.specs.CommonDivisors.{IsCommonDivisor}
 use Rattle.key_laws.specs.DegreeBounds.{coefficient_count}
 use Rattle.key_laws.specs.Solutions.{IsLeastSolution}
 use Rattle.key_laws.proofs.CommonDivisors.{divisor_stays}
+use Rattle.poly_divide.specs.Forms.{linear}
+use Rattle.reducing.specs.FactorLists.{laws, linear_is_factor}
+use Rattle.reducing.specs.PolynomialRows.{lead_number}
+use Rattle.hypergeometric.specs.LinearForm.{LinearForm}
+use Rattle.hypergeometric.specs.FormOrder.{IsSorted}
+use Rattle.hypergeometric.specs.Claim.{Claim}
+use Rattle.hypergeometric.specs.FactorLists.{power_of}
+use Rattle.hypergeometric.specs.Products.{list_polynomial}
+use Rattle.term_pieces.specs.Pieces.{Pieces}
+use Rattle.term_pieces.specs.NormalForm.{Normal}
 use Rattle.pole_laws.specs.Orders.{sides_of}
 use Rattle.pole_laws.proofs.FormProducts.{forms_in_k}
 use Rattle.right_claims.specs.Cancelling.{Divides}

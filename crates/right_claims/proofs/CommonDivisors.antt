@@ -9,22 +9,22 @@ use Rattle.poly_laws.specs.Values.{level}
 use Rattle.poly_laws.proofs.Fitting.{item_at}
 use Rattle.poly_laws.proofs.ListLaws.{sum_nought}
 use Rattle.poly_laws.proofs.OneQuotient.{neg_product}
-use Rattle.poly_divide.specs.Forms.{linear}
-use Rattle.normal_forms.specs.NormalForm.{Normal}
+use Rattle.division_laws.specs.Polynomials.{coefficient_of}
+use Rattle.division_laws.proofs.Polynomials.{listed_at}
 use Rattle.kernel_laws.specs.Rows.{entry_at}
 use Rattle.kernel_laws.specs.RowSteps.{HasQuotient}
 use Rattle.kernel_laws.specs.Reduction.{bare}
 use Rattle.kernel_laws.specs.Answers.{Vector, meant}
 use Rattle.kernel_laws.proofs.Belonging.{bare_at}
-use Rattle.reducing.specs.FactorLists.{laws, linear_is_factor}
-use Rattle.reducing.specs.NothingCommon.{DividesEntries, HasNothingCommon}
-use Rattle.reducing.proofs.ReducedVectors.{nothing_common}
-use Rattle.division_laws.specs.Polynomials.{coefficient_of}
-use Rattle.division_laws.proofs.Polynomials.{listed_at}
 use Rattle.key_laws.specs.CommonDivisors.{IsCommonDivisor}
 use Rattle.key_laws.specs.DegreeBounds.{coefficient_count}
 use Rattle.key_laws.specs.KeyRows.{listing}
 use Rattle.key_laws.proofs.Columns.{listing_meant}
+use Rattle.poly_divide.specs.Forms.{linear}
+use Rattle.reducing.specs.FactorLists.{laws, linear_is_factor}
+use Rattle.reducing.specs.NothingCommon.{DividesEntries, HasNothingCommon}
+use Rattle.reducing.proofs.ReducedVectors.{nothing_common}
+use Rattle.term_pieces.specs.NormalForm.{Normal}
 use Rattle.right_claims.specs.Choice.{IsReduced}
 use Rattle.right_claims.specs.KeySolutions.{rows_of_key, IsChosenVector, multiplier_of}
 use Rattle.right_claims.proofs.FreeVectors.{steps_free}

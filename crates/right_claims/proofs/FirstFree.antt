@@ -6,7 +6,6 @@ use Rattle.std.specs.Prelude.{◌⊎◌, Option}
 use Rattle.ring_laws.specs.Meaning.{Meaning}
 use Rattle.ring_laws.specs.Algebra.{Ops, Passing, within}
 use Rattle.poly_laws.specs.Values.{level}
-use Rattle.normal_forms.specs.NormalForm.{Normal}
 use Rattle.kernel_laws.specs.Pivots.{IsPivotColumn}
 use Rattle.kernel_laws.specs.Reduction.{bare}
 use Rattle.kernel_laws.specs.Elimination.{Run}
@@ -15,10 +14,11 @@ use Rattle.kernel_laws.proofs.Belonging.{kernel_down, ends_down}
 use Rattle.kernel_laws.proofs.ClearedRows.{domain as row_domain}
 use Rattle.kernel_laws.proofs.Echelon.{ends_at_free}
 use Rattle.kernel_laws.proofs.PartRuns.{pivot_rows_stand, pivots_back, isnt_pivot}
+use Rattle.key_laws.specs.DegreeBounds.{coefficient_count}
 use Rattle.reducing.specs.FactorLists.{laws, domain}
 use Rattle.reducing.specs.PolynomialRows.{polynomial_reduction}
 use Rattle.reducing.specs.SplitLaws.{polynomial_reduction_laws}
-use Rattle.key_laws.specs.DegreeBounds.{coefficient_count}
+use Rattle.term_pieces.specs.NormalForm.{Normal}
 use Rattle.right_claims.specs.KeySolutions.{rows_of_key}
 use Rattle.right_claims.proofs.FreeVectors.{rows_in, rows_are, rows_long, unit_some}
 

@@ -3,11 +3,11 @@ use Rattle.std.proofs.Common.{◌≡◌, ℕ, zero, suc, ◌+◌, [], ◌∷◌,
 use Rattle.std.specs.Prelude.{pos}
 use Rattle.ring_laws.specs.Algebra.{same_passing}
 use Rattle.poly_laws.specs.Values.{level}
-use Rattle.hypergeometric.specs.LinearForm.{LinearForm}
-use Rattle.lin_form.specs.FactorLists.{factor_with}
 use Rattle.poly_laws.specs.Powers.{power_in}
-use Rattle.lin_form.specs.Products.{form_polynomial}
 use Rattle.division_laws.specs.Polynomials.{Polynomial}
+use Rattle.hypergeometric.specs.LinearForm.{LinearForm}
+use Rattle.hypergeometric.specs.FactorLists.{factor_with}
+use Rattle.hypergeometric.specs.Products.{form_polynomial}
 use Rattle.pole_laws.proofs.NormalPolynomials.{in_k}
 use Rattle.pole_laws.proofs.FormProducts.{in_k_ring, forms_in_k}
 use Rattle.pole_laws.proofs.Cancelling.{form_in_k}

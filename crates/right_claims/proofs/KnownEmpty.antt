@@ -4,25 +4,25 @@ use Rattle.std.specs.Prelude.{pos, negsuc, None}
 use Rattle.ring_laws.specs.Meaning.{Meaning, number, listed}
 use Rattle.ring_laws.specs.Algebra.{Passing}
 use Rattle.poly_laws.specs.Values.{level}
-use Rattle.normal_forms.specs.NormalForm.{Normal}
+use Rattle.poly_laws.proofs.Equal.{level_laws}
+use Rattle.poly_laws.proofs.ListLaws.{sum_nought}
+use Rattle.division_laws.specs.Polynomials.{Polynomial}
 use Rattle.kernel_laws.specs.Rows.{InKernel, dot}
 use Rattle.kernel_laws.specs.Kernels.{none, with}
+use Rattle.kernel_laws.specs.Answers.{Vector, meant, AllPivots}
 use Rattle.kernel_laws.proofs.Kernels.{first_of}
+use Rattle.key_laws.specs.DegreeBounds.{IsDegreeBound}
 use Rattle.key_laws.proofs.Answers.{pivots_insoluble}
 use Rattle.key_laws.proofs.Degrees.{greatest_degree}
 use Rattle.key_laws.proofs.FindingBounds.{bound_by_degrees}
 use Rattle.key_laws.proofs.OneBound.{one_degree}
-use Rattle.poly_laws.proofs.Equal.{level_laws}
-use Rattle.poly_laws.proofs.ListLaws.{sum_nought}
+use Rattle.term_pieces.specs.NormalForm.{Normal}
+use Rattle.pole_laws.specs.Orders.{tops_of, sides_of}
 use Rattle.pole_laws.proofs.Domains.{in_n_domain}
 use Rattle.gosper_theorem.proofs.EqualForms.{in_n}
-use Rattle.kernel_laws.specs.Answers.{Vector, meant, AllPivots}
-use Rattle.division_laws.specs.Polynomials.{Polynomial}
-use Rattle.key_laws.specs.DegreeBounds.{IsDegreeBound}
 use Rattle.right_claims.specs.KeySolutions.{q_of, b_of, rows_of_key}
 use Rattle.right_claims.specs.Orders.{IsEmptyOrder}
 use Rattle.right_claims.proofs.KnownSettings.{binomial, pieces, normal as normal_at, form, setting}
-use Rattle.pole_laws.specs.Orders.{tops_of, sides_of}
 
 abbrev normal : Normal
 normal = normal_at (pos 0)

@@ -5,21 +5,21 @@ use Rattle.std.specs.Prelude.{pos, negsuc, Some}
 use Rattle.ring_laws.specs.Meaning.{Meaning, number, listed}
 use Rattle.poly_laws.specs.Values.{level}
 use Rattle.poly_laws.proofs.Equal.{level_laws}
-use Rattle.hypergeometric.specs.Fraction.{of_whole}
-use Rattle.hypergeometric.specs.ProperTerm.{ProperTerm}
-use Rattle.hypergeometric.specs.Claim.{Claim}
-use Rattle.lin_form.specs.Forms.{form_with}
-use Rattle.lin_form.specs.Products.{list_polynomial}
-use Rattle.normal_forms.specs.NormalForm.{Normal}
+use Rattle.division_laws.specs.Polynomials.{Polynomial}
 use Rattle.kernel_laws.specs.Rows.{entry_at}
 use Rattle.kernel_laws.specs.Pivots.{IsPivotColumn}
 use Rattle.kernel_laws.specs.Reduction.{bare}
 use Rattle.kernel_laws.specs.Answers.{IsFirstFree}
-use Rattle.division_laws.specs.Polynomials.{Polynomial}
 use Rattle.key_laws.specs.DegreeBounds.{IsDegreeBound}
 use Rattle.key_laws.specs.KeyEquation.{KeyEquation}
 use Rattle.key_laws.proofs.Degrees.{greatest_degree}
 use Rattle.key_laws.proofs.FindingBounds.{bound_by_degrees}
+use Rattle.hypergeometric.specs.Fraction.{of_whole}
+use Rattle.hypergeometric.specs.ProperTerm.{ProperTerm}
+use Rattle.hypergeometric.specs.Claim.{Claim}
+use Rattle.hypergeometric.specs.Forms.{form_with}
+use Rattle.hypergeometric.specs.Products.{list_polynomial}
+use Rattle.term_pieces.specs.NormalForm.{Normal}
 use Rattle.pole_laws.specs.Orders.{sides_of, tops_of}
 use Rattle.right_claims.specs.Cancelling.{all_done, of_nonzero}
 use Rattle.right_claims.specs.Claims.{Range}

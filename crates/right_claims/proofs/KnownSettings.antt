@@ -6,17 +6,17 @@ use Rattle.poly_laws.specs.Values.{level}
 use Rattle.hypergeometric.specs.Fraction.{of_whole}
 use Rattle.hypergeometric.specs.LinearForm.{LinearForm, Factor, FactorList}
 use Rattle.hypergeometric.specs.ProperTerm.{ProperTerm}
-use Rattle.lin_form.specs.FactorLists.{same_form, factor_with, power_of}
-use Rattle.lin_form.proofs.Lookups.{same_form_found}
-use Rattle.term_classes.specs.Forms.{with_numbers}
+use Rattle.hypergeometric.specs.FactorLists.{same_form, factor_with, power_of}
+use Rattle.hypergeometric.specs.Forms.{form_with}
+use Rattle.hypergeometric.proofs.Lookups.{same_form_found}
 use Rattle.term_pieces.specs.Products.{IsProductOf}
 use Rattle.term_pieces.specs.Pieces.{Top, Pieces, ArePiecesOf, carrier_of, poly_at_later_n, top_number, top_forms, top_at}
-use Rattle.normal_forms.specs.NormalForm.{Normal, sum_of_first, at_earlier_k, IsNormalFormOf}
+use Rattle.term_pieces.specs.NormalForm.{Normal, sum_of_first, at_earlier_k, IsNormalFormOf}
 use Rattle.right_claims.specs.Claims.{PrintedForm}
 use Rattle.right_claims.specs.Orders.{IsSetting}
 
 abbrev pub once : ℤ → ℤ → ℤ → Factor
-once n_slope k_slope offset = factor_with (with_numbers n_slope k_slope offset) 1
+once n_slope k_slope offset = factor_with (form_with n_slope k_slope offset) 1
 
 abbrev list_of : ℤ → List Factor → FactorList
 list_of scale factors = record { scale = scale; factors = factors }

@@ -4,19 +4,19 @@ use Rattle.std.specs.Prelude.{Option}
 use Rattle.ring_laws.specs.Meaning.{Meaning}
 use Rattle.ring_laws.specs.Algebra.{Ops, within}
 use Rattle.poly_laws.specs.Values.{level}
-use Rattle.normal_forms.specs.NormalForm.{Normal}
+use Rattle.division_laws.specs.Polynomials.{Polynomial}
 use Rattle.kernel_laws.specs.Rows.{entry_at}
 use Rattle.kernel_laws.specs.Answers.{Vector, meant, FreeVector}
 use Rattle.kernel_laws.specs.Reduction.{bare}
 use Rattle.kernel_laws.proofs.Belonging.{bare_at}
-use Rattle.reducing.specs.FactorLists.{laws, domain}
-use Rattle.division_laws.specs.Polynomials.{Polynomial}
 use Rattle.key_laws.specs.DegreeBounds.{IsDegreeBound, coefficient_count}
 use Rattle.key_laws.specs.KeyRows.{key_rows, polynomial_of}
-use Rattle.key_laws.proofs.Columns.{key_rows_meant}
 use Rattle.key_laws.specs.Solutions.{IsLeastSolution}
+use Rattle.key_laws.proofs.Columns.{key_rows_meant}
 use Rattle.key_laws.proofs.Answers.{free_solution}
 use Rattle.key_laws.proofs.Kernels.{y_in}
+use Rattle.reducing.specs.FactorLists.{laws, domain}
+use Rattle.term_pieces.specs.NormalForm.{Normal}
 use Rattle.pole_laws.specs.Orders.{sides_of}
 use Rattle.right_claims.specs.KeySolutions.{q_of, b_of, IsChosenVector, y_of, multiplier_of}
 use Rattle.right_claims.proofs.Sides.{q_in, b_in, sides_in, sides_are, sides_length}

@@ -3,18 +3,18 @@ use Rattle.std.proofs.Common.{◌≡◌, ℕ, ◌-◌, List, [], length, refl, a
 use Rattle.std.specs.Prelude.{◌⊎◌}
 use Rattle.ring_laws.specs.Meaning.{Meaning}
 use Rattle.poly_laws.specs.Values.{level}
+use Rattle.division_laws.specs.Polynomials.{Polynomial}
+use Rattle.kernel_laws.specs.Answers.{Vector, meant}
+use Rattle.key_laws.specs.KeyEquation.{InsolubleWith}
+use Rattle.key_laws.specs.KeyRows.{listing}
+use Rattle.key_laws.specs.Solutions.{IsLeastSolution}
+use Rattle.key_laws.specs.DegreeBounds.{coefficient_count}
 use Rattle.hypergeometric.specs.LinearForm.{Factor}
 use Rattle.hypergeometric.specs.FormOrder.{IsSorted}
 use Rattle.hypergeometric.specs.ProperTerm.{ProperTerm}
 use Rattle.hypergeometric.specs.Claim.{Claim}
 use Rattle.term_pieces.specs.Pieces.{Pieces, ArePiecesOf}
-use Rattle.normal_forms.specs.NormalForm.{Normal, IsNormalFormOf}
-use Rattle.kernel_laws.specs.Answers.{Vector, meant}
-use Rattle.division_laws.specs.Polynomials.{Polynomial}
-use Rattle.key_laws.specs.KeyEquation.{InsolubleWith}
-use Rattle.key_laws.specs.KeyRows.{listing}
-use Rattle.key_laws.specs.Solutions.{IsLeastSolution}
-use Rattle.key_laws.specs.DegreeBounds.{coefficient_count}
+use Rattle.term_pieces.specs.NormalForm.{Normal, IsNormalFormOf}
 use Rattle.pole_laws.specs.Orders.{sides_of}
 use Rattle.solved_claims.specs.SolvedClaims.{Leaves}
 use Rattle.solved_claims.proofs.PoleScales.{poles_scale}

@@ -4,12 +4,13 @@ use Rattle.std.specs.Prelude.{negsuc}
 use Rattle.ring_laws.specs.Meaning.{Meaning}
 use Rattle.poly_laws.specs.Values.{level}
 use Rattle.key_laws.specs.KeyRows.{listing}
-use Rattle.term_pieces.specs.Tops.{top_polynomial}
+use Rattle.key_laws.specs.KeyEquation.{InsolubleWith}
 use Rattle.hypergeometric.specs.ProperTerm.{ProperTerm}
 use Rattle.hypergeometric.specs.Claim.{Claim}
+use Rattle.term_pieces.specs.Tops.{top_polynomial}
 use Rattle.term_pieces.specs.Pieces.{Top, Pieces, top_at}
-use Rattle.normal_forms.specs.NormalForm.{Normal}
-use Rattle.key_laws.specs.KeyEquation.{InsolubleWith}
+use Rattle.term_pieces.specs.NormalForm.{Normal}
+use Rattle.term_pieces.proofs.OnePieces.{one_r0, one_carrier, one_top}
 use Rattle.pole_laws.specs.Orders.{sides_of, tops_of, IsInsolubleOrder, IsInsolublePair, pair_top}
 use Rattle.claim_laws.specs.Identity.{list_at_k_plus}
 use Rattle.right_claims.specs.Claims.{PrintedForm, printed, Range}
@@ -19,7 +20,6 @@ use Rattle.right_claims.specs.Orders.{IsSetting, IsLeftBy, IsFoundOrder, IsEmpty
 use Rattle.right_claims.proofs.LeftClaims.{soluble}
 use Rattle.right_claims.proofs.Listings.{listing_length}
 use Rattle.right_claims.proofs.OnePieces.{one_tops, one_normal, one_pair_top}
-use Rattle.term_pieces.proofs.OnePieces.{one_r0, one_carrier, one_top}
 use Rattle.right_claims.proofs.OneSolution.{bounds, vectors}
 use Rattle.right_claims.proofs.OneCancelling.{one_left_over}
 

@@ -2,12 +2,12 @@
 use Rattle.std.proofs.Common.{◌≡◌, ℕ, suc, ap, sym, subst, arith}
 use Rattle.hypergeometric.specs.ProperTerm.{ProperTerm}
 use Rattle.term_pieces.specs.Pieces.{Pieces, ArePiecesOf, top_at}
-use Rattle.term_pieces.proofs.OnePieces.{one_q0, one_r0, one_top}
-use Rattle.right_claims.proofs.Listings.{same_listing}
-use Rattle.normal_forms.specs.NormalForm.{Normal, IsNormalFormOf}
+use Rattle.term_pieces.specs.NormalForm.{Normal, IsNormalFormOf}
 use Rattle.term_pieces.specs.Tops.{top_polynomial}
+use Rattle.term_pieces.proofs.OnePieces.{one_q0, one_r0, one_top}
+use Rattle.term_pieces.proofs.OneNormalForm.{one_normal_form}
 use Rattle.pole_laws.specs.Orders.{tops_of, pair_top}
-use Rattle.normal_forms.proofs.OneNormalForm.{one_normal_form}
+use Rattle.right_claims.proofs.Listings.{same_listing}
 
 module _ (f : ProperTerm) (order : ℕ) (x y : Pieces) (p : ArePiecesOf x f order) (q : ArePiecesOf y f order) where
   pub one_tops : tops_of x order ≡ tops_of y order

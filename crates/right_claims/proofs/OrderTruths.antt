@@ -4,21 +4,21 @@ use Rattle.std.specs.List.{AllByRecursion}
 use Rattle.std.proofs.lemmas.List.{length-map}
 use Rattle.ring_laws.specs.Meaning.{Meaning}
 use Rattle.poly_laws.specs.Values.{level}
+use Rattle.kernel_laws.specs.Answers.{meant}
+use Rattle.key_laws.specs.KeyEquation.{InsolubleWith}
+use Rattle.key_laws.specs.DegreeBounds.{coefficient_count}
+use Rattle.key_laws.specs.KeyRows.{listing}
 use Rattle.hypergeometric.specs.Point.{Point}
 use Rattle.hypergeometric.specs.Fraction.{Fraction}
 use Rattle.hypergeometric.specs.ProperTerm.{ProperTerm}
 use Rattle.hypergeometric.specs.TermFacts.{IsProper}
 use Rattle.hypergeometric.specs.Claim.{Claim}
-use Rattle.term_classes.specs.ClassValues.{HasValue}
+use Rattle.hypergeometric.specs.TermValue.{HasValue}
+use Rattle.hypergeometric.specs.Products.{list_polynomial}
 use Rattle.term_pieces.specs.Pieces.{Pieces, ArePiecesOf, top_at}
-use Rattle.normal_forms.specs.NormalForm.{Normal, IsNormalFormOf}
-use Rattle.lin_form.specs.Products.{list_polynomial}
-use Rattle.kernel_laws.specs.Answers.{meant}
-use Rattle.key_laws.specs.KeyEquation.{InsolubleWith}
-use Rattle.key_laws.specs.DegreeBounds.{coefficient_count}
-use Rattle.key_laws.specs.KeyRows.{listing}
-use Rattle.pole_laws.specs.Orders.{sides_of, tops_of, IsInsolubleOrder}
+use Rattle.term_pieces.specs.NormalForm.{Normal, IsNormalFormOf}
 use Rattle.term_pieces.specs.Tops.{top_polynomial}
+use Rattle.pole_laws.specs.Orders.{sides_of, tops_of, IsInsolubleOrder}
 use Rattle.gosper_theorem.proofs.NoCertificate.{no_certificate}
 use Rattle.claim_laws.specs.Certified.{IsCertified}
 use Rattle.claim_laws.proofs.CertifiedClaims.{has_fractions, certified_telescopes}

@@ -3,15 +3,15 @@ use Rattle.std.proofs.Common.{◌≡◌, List, [], ◌∷◌, refl, ap, sym, ◌
 use Rattle.std.specs.List.{AllByRecursion}
 use Rattle.ring_laws.specs.Meaning.{Meaning}
 use Rattle.poly_laws.specs.Values.{level}
+use Rattle.key_laws.specs.KeyEquation.{InsolubleWith}
 use Rattle.hypergeometric.specs.Point.{Point}
 use Rattle.hypergeometric.specs.Fraction.{Fraction}
 use Rattle.hypergeometric.specs.ProperTerm.{ProperTerm}
 use Rattle.hypergeometric.specs.TermFacts.{IsProper}
 use Rattle.hypergeometric.specs.Claim.{Claim}
-use Rattle.term_classes.specs.ClassValues.{HasValue}
+use Rattle.hypergeometric.specs.TermValue.{HasValue}
 use Rattle.term_pieces.specs.Pieces.{Pieces, ArePiecesOf}
-use Rattle.normal_forms.specs.NormalForm.{Normal, IsNormalFormOf}
-use Rattle.key_laws.specs.KeyEquation.{InsolubleWith}
+use Rattle.term_pieces.specs.NormalForm.{Normal, IsNormalFormOf}
 use Rattle.pole_laws.specs.Orders.{sides_of, IsInsolublePair, pair_top}
 use Rattle.gosper_theorem.proofs.NoCertificate.{no_certificate}
 use Rattle.claim_laws.proofs.CertifiedClaims.{has_fractions}

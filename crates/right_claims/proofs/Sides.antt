@@ -10,11 +10,11 @@ use Rattle.poly_laws.specs.Values.{level}
 use Rattle.poly_laws.proofs.Coefficients.{meanings_of, meanings-sum, meanings-trimmed, trimmed_passes}
 use Rattle.poly_laws.proofs.Equal.{level_laws}
 use Rattle.poly_laws.proofs.StepMeanings.{shift_passes}
-use Rattle.lin_form.specs.Products.{list_polynomial}
-use Rattle.lin_form.proofs.FormPolynomials.{list_passes}
-use Rattle.normal_forms.specs.NormalForm.{Normal}
-use Rattle.kernel_laws.specs.Reduction.{bare}
 use Rattle.division_laws.specs.Polynomials.{Polynomial}
+use Rattle.kernel_laws.specs.Reduction.{bare}
+use Rattle.hypergeometric.specs.Products.{list_polynomial}
+use Rattle.hypergeometric.proofs.FormPolynomials.{list_passes}
+use Rattle.term_pieces.specs.NormalForm.{Normal}
 use Rattle.pole_laws.specs.Orders.{sides_of}
 use Rattle.right_claims.specs.KeySolutions.{q_of, b_of}
 

@@ -6,13 +6,13 @@ use Rattle.std.specs.Prelude.{◌≢◌, cond, ◌⊎◌}
 use Rattle.ring_laws.specs.Meaning.{Meaning}
 use Rattle.ring_laws.specs.Algebra.{same_passing}
 use Rattle.poly_laws.specs.Values.{level}
+use Rattle.division_laws.specs.Polynomials.{Polynomial}
 use Rattle.hypergeometric.specs.LinearForm.{LinearForm, Factor}
 use Rattle.hypergeometric.specs.FormOrder.{IsBefore, IsSorted}
-use Rattle.lin_form.specs.FactorLists.{same_form, factor_with, power_of}
-use Rattle.lin_form.proofs.Lookups.{same_form_found}
+use Rattle.hypergeometric.specs.FactorLists.{same_form, factor_with, power_of}
+use Rattle.hypergeometric.proofs.Lookups.{same_form_found}
+use Rattle.term_pieces.specs.NormalForm.{power_within}
 use Rattle.term_pieces.proofs.ProductValues.{not_among}
-use Rattle.normal_forms.specs.NormalForm.{power_within}
-use Rattle.division_laws.specs.Polynomials.{Polynomial}
 use Rattle.pole_laws.proofs.NormalPolynomials.{in_k}
 use Rattle.pole_laws.proofs.FormProducts.{in_k_ring, forms_in_k, joined_forms}
 use Rattle.pole_laws.proofs.Cancelling.{form_in_k, no_forms}

@@ -2,12 +2,12 @@
 use Rattle.std.specs.Prelude.{◌≡◌, ℕ, zero, suc, ◌≤◌, ◌-◌, ◌⊎◌, List, [], ◌∷◌}
 use Rattle.ring_laws.specs.Meaning.{Meaning}
 use Rattle.poly_laws.specs.Values.{level}
-use Rattle.hypergeometric.specs.LinearForm.{LinearForm, Factor}
-use Rattle.lin_form.specs.FactorLists.{factor_with}
 use Rattle.poly_laws.specs.Powers.{power_in}
-use Rattle.lin_form.specs.Products.{form_polynomial}
-use Rattle.kernel_laws.specs.RowSteps.{HasQuotient}
 use Rattle.division_laws.specs.Polynomials.{Polynomial}
+use Rattle.kernel_laws.specs.RowSteps.{HasQuotient}
+use Rattle.hypergeometric.specs.LinearForm.{LinearForm, Factor}
+use Rattle.hypergeometric.specs.FactorLists.{factor_with}
+use Rattle.hypergeometric.specs.Products.{form_polynomial}
 
 -- the form divides Y
 abbrev pub Divides : LinearForm → Meaning → Type 0

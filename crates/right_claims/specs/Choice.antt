@@ -4,19 +4,19 @@ use Rattle.std.specs.Prelude.{ℕ, ◌<◌, ◌≤◌, ℤ, pos, ◌<ℤ◌, Lis
 use Rattle.std.specs.List.{AllByRecursion}
 use Rattle.ring_laws.specs.Meaning.{Meaning}
 use Rattle.poly_laws.specs.Values.{level}
+use Rattle.kernel_laws.specs.Rows.{entry_at}
+use Rattle.kernel_laws.specs.Kernels.{EndsAt}
+use Rattle.key_laws.specs.CommonDivisors.{IsCommonDivisor}
+use Rattle.key_laws.specs.Solutions.{NoSolutionEnds}
 use Rattle.poly_divide.specs.Forms.{linear}
 use Rattle.whole_roots.specs.LinearFactors.{IsProfileForm}
+use Rattle.reducing.specs.PolynomialRows.{lead_number}
 use Rattle.hypergeometric.specs.LinearForm.{LinearForm}
 use Rattle.hypergeometric.specs.ProperTerm.{ProperTerm}
 use Rattle.hypergeometric.specs.Claim.{Claim}
-use Rattle.lin_form.specs.FactorLists.{power_of}
+use Rattle.hypergeometric.specs.FactorLists.{power_of}
 use Rattle.term_pieces.specs.Pieces.{Pieces, ArePiecesOf}
-use Rattle.normal_forms.specs.NormalForm.{Normal, IsNormalFormOf}
-use Rattle.kernel_laws.specs.Rows.{entry_at}
-use Rattle.kernel_laws.specs.Kernels.{EndsAt}
-use Rattle.reducing.specs.PolynomialRows.{lead_number}
-use Rattle.key_laws.specs.CommonDivisors.{IsCommonDivisor}
-use Rattle.key_laws.specs.Solutions.{NoSolutionEnds}
+use Rattle.term_pieces.specs.NormalForm.{Normal, IsNormalFormOf}
 use Rattle.pole_laws.specs.Orders.{sides_of, tops_of, pair_top}
 use Rattle.right_claims.specs.Claims.{TermClaim, found, empty, pair, no_pair}
 use Rattle.right_claims.specs.Cancelling.{Divides}

@@ -2,7 +2,8 @@
 use Rattle.std.specs.Prelude.{ℕ, List, Option}
 use Rattle.hypergeometric.specs.LinearForm.{LinearForm, FactorList}
 use Rattle.hypergeometric.specs.Claim.{Claim}
-use Rattle.normal_forms.specs.NormalForm.{Match, Normal}
+use Rattle.hypergeometric.specs.Match.{Match}
+use Rattle.term_pieces.specs.NormalForm.{Normal}
 
 -- Gosper's normal form as it is printed: the matches, and q and r
 pub record PrintedForm : Type 0 where

@@ -4,15 +4,15 @@ use Rattle.std.specs.Prelude.{◌≡◌, ℕ, ◌+◌, pos, ◌<ℤ◌, ◌⊎�
 use Rattle.ring_laws.specs.Meaning.{Meaning}
 use Rattle.ring_laws.specs.Algebra.{Passing}
 use Rattle.poly_laws.specs.Values.{level}
+use Rattle.division_laws.specs.Polynomials.{at_previous}
 use Rattle.kernel_laws.specs.Rows.{entry_at}
 use Rattle.kernel_laws.specs.Reduction.{bare}
 use Rattle.kernel_laws.specs.Answers.{VectorOf, IsFirstFree}
-use Rattle.reducing.specs.PolynomialRows.{lead_number, polynomial_reduction}
-use Rattle.lin_form.specs.Products.{list_polynomial}
-use Rattle.normal_forms.specs.NormalForm.{Normal}
-use Rattle.division_laws.specs.Polynomials.{at_previous}
 use Rattle.key_laws.specs.DegreeBounds.{IsDegreeBound, coefficient_count}
 use Rattle.key_laws.specs.KeyRows.{key_rows, polynomial_of}
+use Rattle.reducing.specs.PolynomialRows.{lead_number, polynomial_reduction}
+use Rattle.hypergeometric.specs.Products.{list_polynomial}
+use Rattle.term_pieces.specs.NormalForm.{Normal}
 use Rattle.pole_laws.specs.Orders.{sides_of}
 
 -- q(k) of a normal form

@@ -1,12 +1,12 @@
 -- What is right to say of a term at an order (A=B chapter 6; at the order 0 chapter 5), and of its pairs (A=B chapter 7).
 use Rattle.std.specs.Prelude.{◌≡◌, ℕ, suc, List, Option}
 use Rattle.ring_laws.specs.Meaning.{Meaning}
+use Rattle.key_laws.specs.KeyRows.{listing}
 use Rattle.hypergeometric.specs.ProperTerm.{ProperTerm}
 use Rattle.hypergeometric.specs.Claim.{Claim}
 use Rattle.hypergeometric.specs.NaturalRange.{natural_range}
 use Rattle.term_pieces.specs.Pieces.{Pieces, ArePiecesOf}
-use Rattle.normal_forms.specs.NormalForm.{Normal, IsNormalFormOf}
-use Rattle.key_laws.specs.KeyRows.{listing}
+use Rattle.term_pieces.specs.NormalForm.{Normal, IsNormalFormOf}
 use Rattle.pole_laws.specs.Orders.{tops_of, IsInsolubleOrder, IsInsolublePair, pair_top}
 use Rattle.claim_laws.specs.Certified.{HasPieces}
 use Rattle.right_claims.specs.Claims.{PrintedForm, printed, Range}

@@ -3,6 +3,8 @@ use Rattle.std.specs.Prelude.{◌≡◌, ℕ, List, [], ◌∷◌, Some}
 use Rattle.std.specs.List.{AllByRecursion}
 use Rattle.ring_laws.specs.Meaning.{Meaning}
 use Rattle.poly_laws.specs.Values.{level}
+use Rattle.division_laws.specs.Polynomials.{Polynomial}
+use Rattle.key_laws.specs.KeyEquation.{meanings}
 use Rattle.hypergeometric.specs.Point.{Point}
 use Rattle.hypergeometric.specs.Fraction.{Fraction}
 use Rattle.hypergeometric.specs.LinearForm.{LinearForm}
@@ -10,9 +12,7 @@ use Rattle.hypergeometric.specs.ProperTerm.{ProperTerm}
 use Rattle.hypergeometric.specs.Claim.{Claim}
 use Rattle.hypergeometric.specs.Telescopes.{Telescopes}
 use Rattle.term_pieces.specs.Pieces.{Pieces, ArePiecesOf}
-use Rattle.normal_forms.specs.NormalForm.{Normal, IsNormalFormOf}
-use Rattle.division_laws.specs.Polynomials.{Polynomial}
-use Rattle.key_laws.specs.KeyEquation.{meanings}
+use Rattle.term_pieces.specs.NormalForm.{Normal, IsNormalFormOf}
 use Rattle.pole_laws.specs.Orders.{tops_of, IsInsolubleOrder, IsInsolublePair, pair_top}
 use Rattle.gosper_theorem.specs.RationalCertificates.{HasNoCertificate}
 use Rattle.sum_laws.specs.NaturalSums.{ends_of, NaturalSumsVanish}

@@ -10,7 +10,7 @@ ghost use Rattle.hypergeometric.specs.Point.{Point};
 ghost use Rattle.hypergeometric.specs.Fraction.{Fraction};
 ghost use Rattle.hypergeometric.specs.ProperTerm.{ProperTerm};
 ghost use Rattle.hypergeometric.specs.TermFacts.{IsProper};
-ghost use Rattle.term_classes.specs.ClassValues.{HasValue};
+ghost use Rattle.hypergeometric.specs.TermValue.{HasValue};
 ghost use Rattle.right_claims.specs.Claims.{TermClaim};
 ghost use Rattle.right_claims.specs.RightClaims.{Command, AreRightClaims};
 ghost use Rattle.right_claims.specs.Truth.{Holds};

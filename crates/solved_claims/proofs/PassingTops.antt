@@ -8,17 +8,16 @@ use Rattle.poly_laws.specs.Shift.{poly_shift}
 use Rattle.poly_laws.specs.Values.{level}
 use Rattle.poly_laws.proofs.Coefficients.{meanings_of, coefficients, meanings-coefficients, meanings-trimmed, trimmed_passes}
 use Rattle.poly_laws.proofs.Equal.{level_laws}
-use Rattle.hypergeometric.specs.ProperTerm.{ProperTerm}
-use Rattle.hypergeometric.specs.TermFacts.{IsProper}
-use Rattle.lin_form.specs.Products.{list_polynomial}
-use Rattle.lin_form.proofs.FormPolynomials.{o, list_passes}
-use Rattle.term_pieces.specs.Pieces.{Top, Pieces, ArePiecesOf, poly_at_later_n, top_at}
-use Rattle.division_laws.specs.Polynomials.{Polynomial}
+use Rattle.poly_laws.proofs.StepMeanings.{shift_passes}
+use Rattle.division_laws.specs.Polynomials.{Polynomial, constant}
 use Rattle.key_laws.specs.KeyEquation.{meanings}
 use Rattle.key_laws.specs.KeyRows.{listing}
+use Rattle.hypergeometric.specs.ProperTerm.{ProperTerm}
+use Rattle.hypergeometric.specs.TermFacts.{IsProper}
+use Rattle.hypergeometric.specs.Products.{list_polynomial}
+use Rattle.hypergeometric.proofs.FormPolynomials.{o, list_passes}
+use Rattle.term_pieces.specs.Pieces.{Top, Pieces, ArePiecesOf, poly_at_later_n, top_at}
 use Rattle.term_pieces.specs.Tops.{top_polynomial}
-use Rattle.division_laws.specs.Polynomials.{constant}
-use Rattle.poly_laws.proofs.StepMeanings.{shift_passes}
 
 abbrev closed : Closed (level 1)
 closed = (level_laws 1).closed

@@ -8,19 +8,20 @@ use Rattle.ring_solver.proofs.Read.{ring_z, reading_z}
 use Rattle.hypergeometric.specs.LinearForm.{LinearForm, Factor}
 use Rattle.hypergeometric.specs.FormOrder.{IsPrimitive}
 use Rattle.hypergeometric.specs.ProperTerm.{ProperTerm}
-use Rattle.lin_form.specs.FactorLists.{same_form, factor_with}
-use Rattle.lin_form.specs.Forms.{form_with, multiple}
-use Rattle.lin_form.proofs.Lookups.{same_form_found}
-use Rattle.lin_form.proofs.OnlyPrimitive.{only_primitive}
-use Rattle.lin_form.proofs.PrimitiveForms.{IsNotZero}
-use Rattle.term_classes.specs.Forms.{content_of_form, primitive_form}
-use Rattle.term_classes.proofs.OnlyLowest.{content_multiple}
-use Rattle.term_classes.proofs.PrimitiveDenominators.{primitive_is}
+use Rattle.hypergeometric.specs.FactorLists.{same_form, factor_with}
+use Rattle.hypergeometric.specs.Forms.{form_with, multiple}
+use Rattle.hypergeometric.specs.PrimitiveForm.{content_of_form, primitive_form}
+use Rattle.hypergeometric.specs.Match.{Match}
+use Rattle.hypergeometric.proofs.Lookups.{same_form_found}
+use Rattle.hypergeometric.proofs.OnlyPrimitive.{only_primitive}
+use Rattle.hypergeometric.proofs.PrimitiveForms.{IsNotZero}
+use Rattle.hypergeometric.proofs.OnlyLowest.{content_multiple}
+use Rattle.hypergeometric.proofs.PrimitiveParts.{primitive_is}
 use Rattle.term_pieces.specs.Products.{power_among, contents_of}
-use Rattle.term_pieces.proofs.FormValues.{pow_of_one}
 use Rattle.term_pieces.specs.Pieces.{Pieces, ArePiecesOf, q_forms}
-use Rattle.normal_forms.specs.NormalForm.{Match, Normal, IsNormalFormOf, at_earlier_k, forms_before, chains}
-use Rattle.normal_forms.proofs.Takings.{no_more_above}
+use Rattle.term_pieces.specs.NormalForm.{Normal, IsNormalFormOf, at_earlier_k, forms_before, chains}
+use Rattle.term_pieces.proofs.FormValues.{pow_of_one}
+use Rattle.term_pieces.proofs.Takings.{no_more_above}
 use Rattle.pole_laws.proofs.FormsWithK.{HaveK, q_forms_k}
 use Rattle.claim_laws.proofs.ShiftedOrder.{primitive_later}
 

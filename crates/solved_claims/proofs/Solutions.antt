@@ -4,25 +4,24 @@ use Rattle.ring_laws.specs.Meaning.{Meaning}
 use Rattle.ring_laws.specs.Algebra.{Passing}
 use Rattle.poly_laws.specs.Values.{level}
 use Rattle.poly_laws.proofs.ListLaws.{sum_nought}
+use Rattle.division_laws.specs.Polynomials.{Polynomial, constant}
+use Rattle.kernel_laws.specs.Answers.{Vector, meant}
+use Rattle.key_laws.specs.KeyEquation.{meanings, combination}
+use Rattle.key_laws.specs.KeyRows.{listing}
+use Rattle.key_laws.specs.Certificates.{CertificateIdentity}
 use Rattle.hypergeometric.specs.LinearForm.{Factor}
 use Rattle.hypergeometric.specs.ProperTerm.{ProperTerm, HasFractions}
 use Rattle.hypergeometric.specs.TermFacts.{IsProper}
 use Rattle.hypergeometric.specs.Claim.{Claim}
-use Rattle.lin_form.specs.Products.{list_polynomial}
-use Rattle.lin_form.proofs.FormPolynomials.{o, laws}
+use Rattle.hypergeometric.specs.Products.{list_polynomial}
+use Rattle.hypergeometric.proofs.FormPolynomials.{o, laws}
 use Rattle.term_pieces.specs.Pieces.{Top, Pieces, ArePiecesOf, top_at}
-use Rattle.normal_forms.specs.NormalForm.{Normal}
-use Rattle.kernel_laws.specs.Answers.{Vector, meant}
-use Rattle.division_laws.specs.Polynomials.{Polynomial}
-use Rattle.key_laws.specs.KeyEquation.{meanings, combination}
-use Rattle.key_laws.specs.KeyRows.{listing}
-use Rattle.pole_laws.specs.Cancelled.{of_forms}
-use Rattle.key_laws.specs.Certificates.{CertificateIdentity}
+use Rattle.term_pieces.specs.NormalForm.{Normal}
 use Rattle.term_pieces.specs.Tops.{top_polynomial}
+use Rattle.pole_laws.specs.Cancelled.{of_forms}
 use Rattle.pole_laws.specs.Orders.{tops_of, pair_top}
 use Rattle.pole_laws.proofs.Certificates.{some_y, no_y}
 use Rattle.pole_laws.proofs.NonzeroPieces.{q0_some}
-use Rattle.division_laws.specs.Polynomials.{constant}
 use Rattle.claim_laws.specs.Identity.{poly_product, sum_of_tops, poles_polynomial, HasIdentity}
 use Rattle.claim_laws.specs.Certified.{HasPieces, IsCertified}
 use Rattle.claim_laws.proofs.CertifiedClaims.{has_fractions}

@@ -2,14 +2,14 @@
 use Rattle.std.specs.Prelude.{◌≡◌, ◌⊎◌, List, []}
 use Rattle.ring_laws.specs.Meaning.{Meaning}
 use Rattle.poly_laws.specs.Values.{level}
+use Rattle.division_laws.specs.Polynomials.{Polynomial}
+use Rattle.kernel_laws.specs.Answers.{Vector, meant}
+use Rattle.key_laws.specs.KeyEquation.{KeyEquation}
 use Rattle.hypergeometric.specs.LinearForm.{Factor}
 use Rattle.hypergeometric.specs.Claim.{Claim}
-use Rattle.lin_form.specs.Products.{list_polynomial}
+use Rattle.hypergeometric.specs.Products.{list_polynomial}
 use Rattle.term_pieces.specs.Pieces.{Pieces}
-use Rattle.normal_forms.specs.NormalForm.{Normal, IsNormalFormOf}
-use Rattle.kernel_laws.specs.Answers.{Vector, meant}
-use Rattle.division_laws.specs.Polynomials.{Polynomial}
-use Rattle.key_laws.specs.KeyEquation.{KeyEquation}
+use Rattle.term_pieces.specs.NormalForm.{Normal, IsNormalFormOf}
 use Rattle.pole_laws.specs.Cancelled.{of_forms, IsCancelled}
 use Rattle.pole_laws.specs.Orders.{sides_of}
 

@@ -10,7 +10,7 @@ ghost use Rattle.hypergeometric.specs.ProperTerm.{ProperTerm};
 ghost use Rattle.hypergeometric.specs.TermFacts.{IsProper};
 ghost use Rattle.hypergeometric.specs.Claim.{Claim};
 ghost use Rattle.term_pieces.specs.Pieces.{Pieces, ArePiecesOf};
-ghost use Rattle.normal_forms.specs.NormalForm.{Normal, IsNormalFormOf};
+ghost use Rattle.term_pieces.specs.NormalForm.{Normal, IsNormalFormOf};
 ghost use Rattle.kernel_laws.specs.Answers.{Vector, meant};
 ghost use Rattle.division_laws.specs.Polynomials.{Polynomial};
 ghost use Rattle.key_laws.specs.KeyRows.{listing};

@@ -109,8 +109,10 @@ abbrev out_of_bounds : TermSteps ℕ
 out_of_bounds = makes 3 (of_number (2 ^ 127)) 1
 
 at_its_place : HasCause out_of_bounds (term_cause (term.TooLarge 3)) × ¬ HasCause out_of_bounds (term_cause (term.TooLarge 4))
-at_its_place = (made_too_large 3 (of_number (2 ^ 127)) number_out,
-    λ h. omega (arith, (only_one (record { place = 3; counterpart = of_number (2 ^ 127) }) 4 h).0))
+at_its_place = (
+  made_too_large 3 (of_number (2 ^ 127)) number_out,
+  λ h. omega (arith, (only_one (record { place = 3; counterpart = of_number (2 ^ 127) }) 4 h).0),
+)
 
 -- the first of two refusals, with its own reason and place
 abbrev refused : TermSteps ℕ

@@ -1,30 +1,30 @@
 -- Natural sums that are known from elsewhere, so that a wrong definition does not check: those of n!/(k! (n-k)!) from k = 0 to n double with n.
 use Rattle.std.proofs.Common.{◌≡◌, Some, [], ◌∷◌, refl}
 use Rattle.std.specs.Prelude.{ℤ, pos, negsuc, ◌*ℤ◌}
+use Rattle.ring_solver.specs.Ranges.{over}
 use Rattle.ring_laws.specs.Meaning.{number, listed}
 use Rattle.poly_laws.specs.Values.{level}
-use Rattle.ring_solver.specs.Ranges.{over}
 use Rattle.hypergeometric.specs.Point.{Point, point}
 use Rattle.hypergeometric.specs.Fraction.{Fraction, of_whole}
 use Rattle.hypergeometric.specs.LinearForm.{LinearForm}
 use Rattle.hypergeometric.specs.ProperTerm.{ProperTerm, proper_value}
 use Rattle.hypergeometric.specs.Claim.{Claim}
 use Rattle.hypergeometric.specs.PlainTerm.{plain_term, plain_claim}
-use Rattle.lin_form.specs.FactorLists.{factor_with}
-use Rattle.term_classes.specs.Forms.{with_numbers}
+use Rattle.hypergeometric.specs.FactorLists.{factor_with}
 use Rattle.hypergeometric.specs.NaturalRange.{natural_range}
+use Rattle.hypergeometric.specs.Forms.{form_with}
 use Rattle.sum_laws.specs.NaturalSums.{ends_of, natural_sum, left_side_of_sums}
 
 -- n!/(k! (n-k)!)
 abbrev binomial : ProperTerm
 binomial = record (plain_term (pos 1) (level 2).ops.unit) {
-  up = factor_with (with_numbers (pos 1) (pos 0) (pos 0)) 1 ∷ [];
-  down = factor_with (with_numbers (pos 0) (pos 1) (pos 0)) 1 ∷ factor_with (with_numbers (pos 1) (negsuc 0) (pos 0)) 1 ∷ [];
+  up = factor_with (form_with (pos 1) (pos 0) (pos 0)) 1 ∷ [];
+  down = factor_with (form_with (pos 0) (pos 1) (pos 0)) 1 ∷ factor_with (form_with (pos 1) (negsuc 0) (pos 0)) 1 ∷ [];
 }
 
 -- from k = 0 to k = n
 abbrev ends : LinearForm × LinearForm
-ends = (with_numbers (pos 0) (pos 0) (pos 0), with_numbers (pos 1) (pos 0) (pos 0))
+ends = (form_with (pos 0) (pos 0) (pos 0), form_with (pos 1) (pos 0) (pos 0))
 
 pub range : natural_range binomial.down ≡ Some ends
 range = refl

@@ -12,12 +12,12 @@ use Rattle.hypergeometric.specs.FormOrder.{IsFactor}
 use Rattle.hypergeometric.specs.ProperTerm.{ProperTerm}
 use Rattle.hypergeometric.specs.TermFacts.{IsProper}
 use Rattle.hypergeometric.specs.Claim.{Claim}
-use Rattle.term_classes.specs.ClassValues.{HasValue}
-use Rattle.term_pieces.specs.Pieces.{Pieces, ArePiecesOf}
+use Rattle.hypergeometric.specs.TermValue.{HasValue}
 use Rattle.hypergeometric.specs.NaturalRange.{first_with_slope, low_end, high_end, both_ends, natural_range}
+use Rattle.term_pieces.specs.Pieces.{Pieces, ArePiecesOf}
 use Rattle.claim_laws.specs.Certified.{IsCertified}
-use Rattle.sum_laws.specs.NaturalSums.{ends_of, NaturalSumsVanish}
 use Rattle.claim_laws.proofs.CertifiedClaims.{certified_telescopes}
+use Rattle.sum_laws.specs.NaturalSums.{ends_of, NaturalSumsVanish}
 use Rattle.sum_laws.proofs.NaturalClaims.{natural_sums_vanish}
 use Rattle.sum_laws.proofs.NaturalZeros.{Stands, at_no_k}
 use Rattle.sum_laws.proofs.NaturalEnds.{GiveEnds}

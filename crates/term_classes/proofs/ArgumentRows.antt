@@ -3,25 +3,26 @@ use Rattle.std.proofs.Common.{◌≡◌, ℕ, refl, ap, sym, ◌∙◌, [], ◌�
 use Rattle.std.specs.Prelude.{ℤ, pos, ◌+ℤ◌, ◌-ℤ◌, ◌*ℤ◌, neg_ℤ, if◌then◌else◌, Ok}
 use Rattle.ring_solver.proofs.Read.{ring_z, reading_z}
 use Rattle.ring_laws.specs.Meaning.{Meaning}
+use Rattle.steps.specs.Operations.{of_number}
+use Rattle.steps.specs.Steps.{makes, ◌then◌}
+use Rattle.steps.specs.TermFaults.{improper, TermSteps}
+use Rattle.steps.proofs.StepLaws.{then_gave, same_Ok, not_refused}
 use Rattle.hypergeometric.specs.Point.{Point}
 use Rattle.hypergeometric.specs.Fraction.{Fraction, of_whole, fraction_difference, fraction_product, whole_power}
 use Rattle.hypergeometric.specs.LinearForm.{LinearForm, form_value}
 use Rattle.hypergeometric.specs.ProperTerm.{ProperTerm, poly_value, IsNonzero, HasFractions}
-use Rattle.hypergeometric.specs.Tree.{Tree}
-use Rattle.hypergeometric.specs.TreePolynomial.{tree_polynomial}
-use Rattle.hypergeometric.specs.TreeValue.{tree_value, factorial_power, at_whole}
+use Rattle.hypergeometric.specs.Divisors.{lowest_terms, raised_fraction}
+use Rattle.hypergeometric.specs.Forms.{form_difference, difference_size}
 use Rattle.hypergeometric.proofs.PlainTerms.{difference_of_wholes}
-use Rattle.steps.proofs.StepLaws.{then_gave, same_Ok, not_refused}
-use Rattle.steps.specs.Operations.{of_number}
-use Rattle.steps.specs.Steps.{makes, ◌then◌}
-use Rattle.steps.specs.TermFaults.{improper, TermSteps}
-use Rattle.term_classes.specs.Divisors.{lowest_terms, raised_fraction}
-use Rattle.term_classes.specs.Forms.{linear_form_of, form_difference, difference_size, limited_form}
+use Rattle.hypergeometric.proofs.SameValues.{◌≅◌, same, same_itself, same_chain, same_turned, same_products, same_sums, same_negatives}
+use Rattle.hypergeometric.proofs.FractionPowers.{product_one}
+use Rattle.hypergeometric.proofs.NonzeroPowers.{power_at_sum}
+use Rattle.grammar.specs.Tree.{Tree}
+use Rattle.term_classes.specs.TreePolynomial.{tree_polynomial}
+use Rattle.term_classes.specs.TreeValue.{tree_value, factorial_power, at_whole}
+use Rattle.term_classes.specs.Forms.{linear_form_of, limited_form}
 use Rattle.term_classes.specs.Sought.{polynomial_sought}
 use Rattle.term_classes.specs.Walk.{with_n_base, with_k_base, with_scale, place_of, with_factorial, form_or_refused, argument_sought, not_negative, times_exponential, times_binomial}
-use Rattle.term_classes.proofs.SameValues.{◌≅◌, same, same_itself, same_chain, same_turned, same_products, same_sums, same_negatives}
-use Rattle.term_classes.proofs.FractionPowers.{product_one}
-use Rattle.term_classes.proofs.NonzeroPowers.{power_at_sum}
 use Rattle.term_classes.proofs.PolynomialValues.{tree_has}
 use Rattle.term_classes.proofs.SoughtPolynomials.{sought_is}
 use Rattle.term_classes.proofs.TermProducts.{IsTimes, times_both, times_same}
@@ -62,7 +63,6 @@ three_powers f h l w p =
     joined : (w s t c n k : ℤ) → w *ℤ c +ℤ w *ℤ t *ℤ k +ℤ w *ℤ s *ℤ n ≡ w *ℤ (s *ℤ n +ℤ t *ℤ k +ℤ c)
     joined w s t c n k = ring_z (w ∷ s ∷ t ∷ c ∷ n ∷ k ∷ []) (search reading_z depth 40 fits 20000) refl
 
-
 pub exponential_row : (at : ℕ) (f : Fraction) (l : LinearForm) (w : ℤ) (s s' : ProperTerm) → HasFractions s → IsNonzero f
     → (times_exponential at f l w s).outcome ≡ Ok s' → IsTimes s s' (λ p. whole_power f (w *ℤ form_value l p))
 exponential_row at f l w s s' h nonzero e =
@@ -91,7 +91,6 @@ difference_value upper lower l m e q p =
   where
     parts : (a b c d e f n k : ℤ) → (a *ℤ n +ℤ b *ℤ k +ℤ c) -ℤ (d *ℤ n +ℤ e *ℤ k +ℤ f) ≡ (a -ℤ d) *ℤ n +ℤ (b -ℤ e) *ℤ k +ℤ (c -ℤ f)
     parts a b c d e f n k = ring_z (a ∷ b ∷ c ∷ d ∷ e ∷ f ∷ n ∷ k ∷ []) (search reading_z depth 40 fits 20000) refl
-
 
 -- steps whose value isn't used
 pub skipped : {A B : Type 0} (s : TermSteps A) (t : TermSteps B) (y : B) → (s then (λ x. t)).outcome ≡ Ok y → t.outcome ≡ Ok y

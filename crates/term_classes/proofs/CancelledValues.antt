@@ -9,16 +9,16 @@ use Rattle.hypergeometric.specs.Fraction.{Fraction, IsDefined, of_whole, fractio
 use Rattle.hypergeometric.specs.LinearForm.{LinearForm, Factor, form_value, factorial, factorial_value, inverse_factorial_value, product_over}
 use Rattle.hypergeometric.specs.FormOrder.{NoFormTwice}
 use Rattle.hypergeometric.specs.ProperTerm.{ProperTerm, NoneNegative, IsDefinedAt, poly_value, proper_value, HasFractions}
+use Rattle.hypergeometric.specs.FactorLists.{power_of, in_both, without}
+use Rattle.hypergeometric.specs.TermValue.{HasValue}
 use Rattle.hypergeometric.proofs.FractionLaws.{one_not_zero}
 use Rattle.hypergeometric.proofs.Definedness.{proper_value_defined}
-use Rattle.lin_form.specs.FactorLists.{power_of}
-use Rattle.term_classes.specs.ClassValues.{HasValue}
-use Rattle.term_classes.specs.Walk.{with_lists, in_both, without, cancelled}
-use Rattle.term_classes.proofs.SameValues.{◌≅◌, same, same_itself, same_chain, same_turned, same_products, same_equal}
-use Rattle.term_classes.proofs.FractionPowers.{fraction_same, product_one, one_product, products_exchange, power_of_product}
-use Rattle.term_classes.proofs.SharedForms.{AllSome, all_more, own_powers, both_forms, both_distinct, both_in_first, both_in_second, both_below_first, both_below_second, without_forms}
-use Rattle.term_classes.proofs.SharedProducts.{product_parts}
-use Rattle.term_classes.proofs.DefinedValues.{value_defined, none_to_all, all_to_none, parts_natural}
+use Rattle.hypergeometric.proofs.SameValues.{◌≅◌, same, same_itself, same_chain, same_turned, same_products, same_equal}
+use Rattle.hypergeometric.proofs.FractionPowers.{fraction_same, product_one, one_product, products_exchange, power_of_product}
+use Rattle.hypergeometric.proofs.SharedForms.{AllSome, all_more, own_powers, both_forms, both_distinct, both_in_first, both_in_second, both_below_first, both_below_second, without_forms}
+use Rattle.hypergeometric.proofs.SharedProducts.{product_parts}
+use Rattle.hypergeometric.proofs.DefinedValues.{value_defined, none_to_all, all_to_none, parts_natural}
+use Rattle.term_classes.specs.Walk.{with_lists, cancelled}
 
 module _ (p : Point) where
   -- m! times 1/m!

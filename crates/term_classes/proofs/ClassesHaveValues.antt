@@ -1,21 +1,22 @@
 -- The class of a tree has its tree's value, and the class of a quotient that of the quotient.
 use Rattle.std.proofs.Common.{◌≡◌, ap, ◌∙◌, [], ◌∷◌, arith, subst}
 use Rattle.std.specs.Prelude.{ℤ, pos, negsuc, ◌*ℤ◌, Ok}
+use Rattle.poly_laws.specs.TwoVariables.{in_n_and_k}
 use Rattle.poly_laws.proofs.Keeps.{value_at_keeps}
+use Rattle.steps.specs.Steps.{gives, ◌then◌}
+use Rattle.steps.proofs.StepLaws.{then_gave, same_Ok}
 use Rattle.hypergeometric.specs.Point.{Point, values}
 use Rattle.hypergeometric.specs.Fraction.{Fraction, of_whole, fraction_product}
 use Rattle.hypergeometric.specs.ProperTerm.{ProperTerm, proper_value, HasFractions}
-use Rattle.hypergeometric.specs.Tree.{Tree}
-use Rattle.hypergeometric.specs.TreePolynomial.{in_n_and_k}
-use Rattle.hypergeometric.specs.TreeValue.{tree_value, term_value}
+use Rattle.hypergeometric.specs.TermValue.{HasValue}
 use Rattle.hypergeometric.proofs.FractionLaws.{one_not_zero, equal_chain}
 use Rattle.hypergeometric.proofs.PlainTerms.{plain_value}
-use Rattle.steps.proofs.StepLaws.{then_gave, same_Ok}
-use Rattle.steps.specs.Steps.{gives, ◌then◌}
+use Rattle.hypergeometric.proofs.SameValues.{◌≅◌, same, same_chain, same_defined, same_equal}
+use Rattle.hypergeometric.proofs.FractionPowers.{one_product}
+use Rattle.grammar.specs.Tree.{Tree}
+use Rattle.term_classes.specs.TreeValue.{tree_value, term_value}
 use Rattle.term_classes.specs.Walk.{unit_term, walk, cancelled, class_of, class_of_quotient}
-use Rattle.term_classes.specs.ClassValues.{HasValue, quotient_value}
-use Rattle.term_classes.proofs.SameValues.{◌≅◌, same, same_chain, same_defined, same_equal}
-use Rattle.term_classes.proofs.FractionPowers.{one_product}
+use Rattle.term_classes.specs.ClassValues.{quotient_value}
 use Rattle.term_classes.proofs.TermProducts.{IsTimes, times_both}
 use Rattle.term_classes.proofs.WalkValues.{walk_multiplies, minus_one_not_zero}
 use Rattle.term_classes.proofs.WalkKeeps.{walk_keeps}

@@ -9,25 +9,25 @@ use Rattle.ring_laws.specs.Meaning.{Meaning, items}
 use Rattle.ring_laws.specs.Wholes.{number_of}
 use Rattle.ring_laws.specs.WholeDomain.{abs_nought}
 use Rattle.poly_laws.specs.Values.{value_at, horner}
-use Rattle.hypergeometric.specs.Point.{Point, point, values, values_in_n}
-use Rattle.hypergeometric.specs.Fraction.{Fraction, IsDefined, of_whole, fraction_negative, fraction_product, whole_power}
-use Rattle.hypergeometric.specs.ProperTerm.{poly_value, IsNonzero}
-use Rattle.hypergeometric.specs.Tree.{Tree}
-use Rattle.hypergeometric.specs.TreePolynomial.{constant_in_n, constant_in_k}
-use Rattle.hypergeometric.specs.TreeValue.{tree_value}
-use Rattle.hypergeometric.proofs.PlainTerms.{whole_power_of_one}
-use Rattle.hypergeometric.proofs.Definedness.{natural_power_defined}
-use Rattle.steps.proofs.StepLaws.{same_Ok}
+use Rattle.poly_laws.specs.TwoVariables.{constant_in_n, constant_in_k}
 use Rattle.steps.specs.Operations.{Counterpart, of_fraction}
 use Rattle.steps.specs.TermFaults.{Improper}
 use Rattle.steps.specs.Steps.{gives, makes, ◌then◌}
-use Rattle.term_classes.specs.Divisors.{lowest_terms, raised_fraction, size_of_top, size_of_bottom}
-use Rattle.term_classes.specs.Forms.{is_zero}
+use Rattle.steps.proofs.StepLaws.{same_Ok}
+use Rattle.hypergeometric.specs.Point.{Point, point, values, values_in_n}
+use Rattle.hypergeometric.specs.Fraction.{Fraction, IsDefined, of_whole, fraction_negative, fraction_product, whole_power}
+use Rattle.hypergeometric.specs.ProperTerm.{poly_value, IsNonzero}
+use Rattle.hypergeometric.specs.Divisors.{lowest_terms, raised_fraction, size_of_top, size_of_bottom}
+use Rattle.hypergeometric.specs.PrimitiveForm.{is_zero}
+use Rattle.hypergeometric.proofs.PlainTerms.{whole_power_of_one}
+use Rattle.hypergeometric.proofs.Definedness.{natural_power_defined}
+use Rattle.hypergeometric.proofs.SameValues.{◌≅◌, same, same_itself, same_chain, same_turned, same_products, same_whole_powers}
+use Rattle.hypergeometric.proofs.FractionPowers.{fraction_same, whole_power_of_product, natural_then_whole}
+use Rattle.hypergeometric.proofs.NonzeroPowers.{power_then_power}
+use Rattle.hypergeometric.proofs.LowestTerms.{lowest_same, lowest_bottom_zero, raised_same, raised_natural, raised_nonzero}
+use Rattle.grammar.specs.Tree.{Tree}
+use Rattle.term_classes.specs.TreeValue.{tree_value}
 use Rattle.term_classes.specs.Sought.{power_made, negative_of}
-use Rattle.term_classes.proofs.SameValues.{◌≅◌, same, same_itself, same_chain, same_turned, same_products, same_whole_powers}
-use Rattle.term_classes.proofs.FractionPowers.{fraction_same, whole_power_of_product, natural_then_whole}
-use Rattle.term_classes.proofs.NonzeroPowers.{power_then_power}
-use Rattle.term_classes.proofs.LowestTerms.{lowest_same, lowest_bottom_zero, raised_same, raised_natural, raised_nonzero}
 use Rattle.term_classes.proofs.PolynomialParts.{power_value}
 
 -- a polynomial that is a constant has its value at each point

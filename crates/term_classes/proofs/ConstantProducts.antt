@@ -3,26 +3,27 @@ use Rattle.std.proofs.Common.{◌≡◌, ℕ, refl, ap, sym, ◌∙◌, List, �
 use Rattle.std.proofs.lemmas.Option.{same_Some, none-some}
 use Rattle.std.specs.Prelude.{ℤ, neg_ℤ, unsigned_abs, Ok}
 use Rattle.ring_laws.specs.Meaning.{Meaning, items}
-use Rattle.hypergeometric.specs.Point.{Point}
-use Rattle.hypergeometric.specs.Fraction.{Fraction, of_whole, fraction_product, whole_power}
-use Rattle.hypergeometric.specs.ProperTerm.{poly_value, IsNonzero}
-use Rattle.hypergeometric.specs.Tree.{Tree, Node, Parts, part}
-use Rattle.hypergeometric.specs.TreePolynomial.{constant_in_k, node_polynomial}
-use Rattle.hypergeometric.specs.TreeValue.{tree_value, node_value, product_value, part_power}
-use Rattle.hypergeometric.proofs.FractionLaws.{one_not_zero, product_not_zero}
-use Rattle.steps.proofs.StepLaws.{then_gave, same_Ok}
+use Rattle.poly_laws.specs.TwoVariables.{constant_in_k}
 use Rattle.steps.specs.Found.{where_some, in_front}
 use Rattle.steps.specs.Operations.{of_fraction}
 use Rattle.steps.specs.Steps.{gives, within_limit, ◌then◌}
 use Rattle.steps.specs.TermFaults.{TermSteps}
 use Rattle.steps.specs.declared.limits.LimitName.TheVariants.{Exponent}
-use Rattle.term_classes.specs.Divisors.{lowest_terms}
-use Rattle.term_classes.specs.Forms.{is_zero}
+use Rattle.steps.proofs.StepLaws.{then_gave, same_Ok}
+use Rattle.hypergeometric.specs.Point.{Point}
+use Rattle.hypergeometric.specs.Fraction.{Fraction, of_whole, fraction_product, whole_power}
+use Rattle.hypergeometric.specs.ProperTerm.{poly_value, IsNonzero}
+use Rattle.hypergeometric.specs.Divisors.{lowest_terms}
+use Rattle.hypergeometric.specs.PrimitiveForm.{is_zero}
+use Rattle.hypergeometric.proofs.FractionLaws.{one_not_zero, product_not_zero}
+use Rattle.hypergeometric.proofs.SameValues.{◌≅◌, same, same_chain, same_turned, same_products, same_whole_powers}
+use Rattle.hypergeometric.proofs.FractionPowers.{whole_power_of_product}
+use Rattle.hypergeometric.proofs.NonzeroPowers.{inverse_is_turned_over, negated_exponent}
+use Rattle.hypergeometric.proofs.LowestTerms.{lowest_same, lowest_bottom_zero}
+use Rattle.grammar.specs.Tree.{Tree, Node, Parts, part}
+use Rattle.term_classes.specs.TreePolynomial.{node_polynomial}
+use Rattle.term_classes.specs.TreeValue.{tree_value, node_value, product_value, part_power}
 use Rattle.term_classes.specs.Sought.{FractionFactor, divides_by_zero, factor_fraction, product_of_fractions, product_made, power_made, whole_fraction, constant_sought, node_constant_sought, constants_sought, top_sizes, bottom_sizes}
-use Rattle.term_classes.proofs.SameValues.{◌≅◌, same, same_chain, same_turned, same_products, same_whole_powers}
-use Rattle.term_classes.proofs.FractionPowers.{whole_power_of_product}
-use Rattle.term_classes.proofs.NonzeroPowers.{inverse_is_turned_over, negated_exponent}
-use Rattle.term_classes.proofs.LowestTerms.{lowest_same, lowest_bottom_zero}
 use Rattle.term_classes.proofs.PolynomialValues.{node_has}
 use Rattle.term_classes.proofs.PolynomialParts.{power_value}
 use Rattle.term_classes.proofs.ConstantPowers.{IsConstant, constant_value, power_made_has, unless_given, not_zero}

@@ -3,20 +3,21 @@ use Rattle.std.proofs.Common.{◌≡◌, ℕ, ap, sym, List, [], true, false, Op
 use Rattle.std.proofs.lemmas.Option.{same_Some, none-some}
 use Rattle.std.specs.Prelude.{ℤ, pos, ◌*ℤ◌, unsigned_abs, Ok}
 use Rattle.ring_laws.specs.Meaning.{items}
-use Rattle.hypergeometric.specs.Point.{Point}
-use Rattle.hypergeometric.specs.Fraction.{Fraction, whole_power}
-use Rattle.hypergeometric.specs.Tree.{Tree, tree, Node, literal, variable_n, variable_k, sum_of, product_of, power_of, factorial_of, binomial_of, Parts, no_parts, part}
-use Rattle.hypergeometric.specs.TreePolynomial.{constant_in_k, constant_of}
-use Rattle.hypergeometric.specs.TreeValue.{tree_value, node_value, product_value, at_whole, defined_power}
-use Rattle.hypergeometric.proofs.FractionLaws.{one_not_zero}
-use Rattle.hypergeometric.proofs.PlainTerms.{whole_power_of_one}
-use Rattle.steps.proofs.StepLaws.{then_gave, same_Ok}
+use Rattle.poly_laws.specs.TwoVariables.{constant_in_k}
 use Rattle.steps.specs.Found.{where_some, in_front}
 use Rattle.steps.specs.Steps.{gives, within_limit, ◌then◌}
 use Rattle.steps.specs.TermFaults.{TermSteps}
 use Rattle.steps.specs.declared.limits.LimitName.TheVariants.{Exponent}
+use Rattle.steps.proofs.StepLaws.{then_gave, same_Ok}
+use Rattle.hypergeometric.specs.Point.{Point}
+use Rattle.hypergeometric.specs.Fraction.{Fraction, whole_power}
+use Rattle.hypergeometric.proofs.FractionLaws.{one_not_zero}
+use Rattle.hypergeometric.proofs.PlainTerms.{whole_power_of_one}
+use Rattle.hypergeometric.proofs.SameValues.{same}
+use Rattle.grammar.specs.Tree.{Tree, tree, Node, literal, variable_n, variable_k, sum_of, product_of, power_of, factorial_of, binomial_of, Parts, no_parts, part}
+use Rattle.term_classes.specs.TreePolynomial.{constant_of}
+use Rattle.term_classes.specs.TreeValue.{tree_value, node_value, product_value, at_whole, defined_power}
 use Rattle.term_classes.specs.Sought.{FractionFactor, divides_by_zero, product_of_fractions, product_made, power_made, whole_fraction, negative_of, polynomial_sought, node_polynomial_sought, constant_sought, node_constant_sought, constants_sought}
-use Rattle.term_classes.proofs.SameValues.{same}
 use Rattle.term_classes.proofs.PolynomialParts.{power_value}
 use Rattle.term_classes.proofs.SoughtPolynomials.{sought_is, node_sought_is}
 use Rattle.term_classes.proofs.ConstantPowers.{IsConstant, negated_constant}

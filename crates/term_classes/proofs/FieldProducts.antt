@@ -2,18 +2,18 @@
 use Rattle.std.proofs.Common.{ℕ, ap, [], ◌∷◌}
 use Rattle.std.specs.Prelude.{ℤ, ◌*ℤ◌}
 use Rattle.ring_laws.specs.Meaning.{Meaning}
+use Rattle.poly_laws.specs.TwoVariables.{in_n_and_k}
 use Rattle.poly_laws.proofs.Keeps.{value_at_keeps}
 use Rattle.hypergeometric.specs.Point.{Point, values}
 use Rattle.hypergeometric.specs.Fraction.{Fraction, of_whole, fraction_product, fraction_inverse, natural_power, whole_power}
 use Rattle.hypergeometric.specs.LinearForm.{LinearForm, form_value, product_over, factorial_value, inverse_factorial_value}
 use Rattle.hypergeometric.specs.ProperTerm.{ProperTerm, poly_value, proper_value, IsNonzero, HasFractions}
-use Rattle.hypergeometric.specs.TreePolynomial.{in_n_and_k}
-use Rattle.lin_form.specs.FactorLists as lists
-use Rattle.term_classes.specs.Divisors.{lowest_terms, raised_fraction}
+use Rattle.hypergeometric.specs.FactorLists as lists
+use Rattle.hypergeometric.specs.Divisors.{lowest_terms, raised_fraction}
+use Rattle.hypergeometric.proofs.SameValues.{◌≅◌, same, same_itself, same_chain, same_products, same_whole_powers}
+use Rattle.hypergeometric.proofs.FractionPowers.{whole_power_of_product}
+use Rattle.hypergeometric.proofs.NonzeroPowers.{power_then_power}
 use Rattle.term_classes.specs.Walk.{with_poly, with_scale, with_n_base, with_k_base, with_lists}
-use Rattle.term_classes.proofs.SameValues.{◌≅◌, same, same_itself, same_chain, same_products, same_whole_powers}
-use Rattle.term_classes.proofs.FractionPowers.{whole_power_of_product}
-use Rattle.term_classes.proofs.NonzeroPowers.{power_then_power}
 use Rattle.term_classes.proofs.TermProducts.{IsTimes, deeper, outer, factor_times, power_multiplied, multiplied_nonzero}
 
 module _ (s : ProperTerm) (h : HasFractions s) where

@@ -10,10 +10,10 @@ use Rattle.hypergeometric.specs.LinearForm.{LinearForm, Factor}
 use Rattle.hypergeometric.specs.FormOrder.{IsForm, IsFactor, AreFactors}
 use Rattle.hypergeometric.specs.ProperTerm.{ProperTerm}
 use Rattle.hypergeometric.specs.TermFacts.{IsWithinLimits, AllWithinLimits, total_power}
-use Rattle.lin_form.specs.FactorLists as lists
-use Rattle.lin_form.proofs.Lookups.{factors_stay}
-use Rattle.term_classes.specs.Forms.{content_of_form, primitive_form}
-use Rattle.term_classes.proofs.SharedForms.{AllSome, power_by, all_more}
+use Rattle.hypergeometric.specs.FactorLists as lists
+use Rattle.hypergeometric.specs.PrimitiveForm.{content_of_form, primitive_form}
+use Rattle.hypergeometric.proofs.Lookups.{factors_stay}
+use Rattle.hypergeometric.proofs.SharedForms.{AllSome, power_by, all_more}
 use Rattle.term_classes.proofs.RowFacts.{RowsKeep, IsFew}
 
 pub total_with : (l : LinearForm) (w : ℕ) (xs : List Factor) → total_power (lists.with_factor l w xs) ≡ total_power xs + w

@@ -3,18 +3,21 @@ use Rattle.std.proofs.Common.{◌≡◌, ◌≢◌, ℕ, zero, suc, refl, ap, �
 use Rattle.std.specs.Prelude.{ℤ, pos, negsuc, ◌*ℤ◌, neg_ℤ, unsigned_abs, int_lt, if◌then◌else◌, Ok}
 use Rattle.ring_solver.proofs.Linear.{product_zero}
 use Rattle.ring_laws.specs.Meaning.{Meaning, items}
+use Rattle.poly_laws.specs.TwoVariables.{in_n_and_k, poly_power, constant_in_k}
+use Rattle.steps.specs.Steps.{gives, refuses, within_limit, ◌then◌}
+use Rattle.steps.specs.TermFaults.{improper, TermSteps}
+use Rattle.steps.specs.declared.limits.LimitName.TheVariants.{Exponent}
+use Rattle.steps.proofs.StepLaws.{then_gave, same_Ok, not_refused}
 use Rattle.hypergeometric.specs.Fraction.{of_whole, fraction_product}
 use Rattle.hypergeometric.specs.LinearForm.{LinearForm}
 use Rattle.hypergeometric.specs.ProperTerm.{ProperTerm, IsNonzero}
 use Rattle.hypergeometric.specs.TermFacts.{IsWithinLimits}
-use Rattle.hypergeometric.specs.Tree.{Tree, Node}
-use Rattle.hypergeometric.specs.TreePolynomial.{in_n_and_k, poly_power, constant_in_k}
-use Rattle.steps.proofs.StepLaws.{then_gave, same_Ok, not_refused}
-use Rattle.steps.specs.Steps.{gives, refuses, within_limit, ◌then◌}
-use Rattle.steps.specs.TermFaults.{improper, TermSteps}
-use Rattle.steps.specs.declared.limits.LimitName.TheVariants.{Exponent}
-use Rattle.term_classes.specs.Divisors.{lowest_terms, raised_fraction}
-use Rattle.term_classes.specs.Forms.{is_zero, linear_form_of, form_difference, content_of_form, primitive_form, limited_form, limited_exponent}
+use Rattle.hypergeometric.specs.Divisors.{lowest_terms, raised_fraction}
+use Rattle.hypergeometric.specs.PrimitiveForm.{is_zero, content_of_form, primitive_form}
+use Rattle.hypergeometric.specs.Forms.{form_difference}
+use Rattle.hypergeometric.proofs.Contents.{content_not_zero}
+use Rattle.grammar.specs.Tree.{Tree, Node}
+use Rattle.term_classes.specs.Forms.{linear_form_of, limited_form, limited_exponent}
 use Rattle.term_classes.specs.Sought.{node_polynomial_sought, constant_sought}
 use Rattle.term_classes.specs.Walk.{with_poly, with_scale, with_n_base, with_k_base, place_of, times_power, few_factors, with_factorial, with_denominator, times_number, times_polynomial, times_sought, form_or_refused, base_or_refused, argument_sought, not_negative, times_exponential, times_binomial, walk}
 use Rattle.term_classes.proofs.SoughtPolynomials.{node_sought_is}
@@ -22,7 +25,6 @@ use Rattle.term_classes.proofs.ConstantPowers.{not_zero}
 use Rattle.term_classes.proofs.ConstantValues.{constant_has}
 use Rattle.term_classes.proofs.PassingPolynomials.{Belongs, node_belongs}
 use Rattle.term_classes.proofs.VaryingForms.{IsVarying, varying_not_zero}
-use Rattle.term_classes.proofs.FormValues.{content_not_zero}
 use Rattle.term_classes.proofs.WalkRows.{few_same, whole_nonzero}
 use Rattle.term_classes.proofs.ArgumentRows.{skipped, three_factorials, limits_tested, difference_made, arguments_tested}
 use Rattle.term_classes.proofs.WalkValues.{base_found, exponential_walk}

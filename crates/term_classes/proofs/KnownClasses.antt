@@ -1,17 +1,18 @@
 -- Worked classes and refusals.
 use Rattle.std.specs.Prelude.{◌≡◌, ℕ, ℤ, pos, negsuc, Bool, true, false, [], ◌∷◌, Result, Ok, Err, refl}
 use lib.IntN.{pow}
-use Rattle.hypergeometric.specs.Fraction.{Fraction, of_whole}
-use Rattle.hypergeometric.specs.LinearForm.{LinearForm}
-use Rattle.hypergeometric.specs.ProperTerm.{ProperTerm}
-use Rattle.hypergeometric.specs.Tree.{Tree, tree, Node, literal, variable_n, variable_k, sum_of, product_of, power_of, factorial_of, binomial_of, Parts, no_parts, part}
-use Rattle.hypergeometric.specs.TreePolynomial.{poly_k}
-use Rattle.lin_form.specs.FactorLists.{factor_with}
+use Rattle.poly_laws.specs.TwoVariables.{poly_k}
 use Rattle.steps.specs.Steps.{limit}
 use Rattle.steps.specs.TermFaults.{TermRefusal, improper}
 use Rattle.steps.specs.declared.limits.LimitName.TheVariants.{Exponent, Factors, Slope, Offset}
-use Rattle.term_classes.specs.Divisors.{greatest_common_divisor, lowest_terms}
-use Rattle.term_classes.specs.Forms.{with_numbers, content_of_form, primitive_form}
+use Rattle.hypergeometric.specs.Fraction.{Fraction, of_whole}
+use Rattle.hypergeometric.specs.LinearForm.{LinearForm}
+use Rattle.hypergeometric.specs.ProperTerm.{ProperTerm}
+use Rattle.hypergeometric.specs.FactorLists.{factor_with}
+use Rattle.hypergeometric.specs.Divisors.{greatest_common_divisor, lowest_terms}
+use Rattle.hypergeometric.specs.PrimitiveForm.{content_of_form, primitive_form}
+use Rattle.hypergeometric.specs.Forms.{form_with}
+use Rattle.grammar.specs.Tree.{Tree, tree, Node, literal, variable_n, variable_k, sum_of, product_of, power_of, factorial_of, binomial_of, Parts, no_parts, part}
 use Rattle.term_classes.specs.Walk.{unit_term, with_poly, with_scale, with_n_base, with_k_base, with_lists, class_of, class_of_quotient}
 
 abbrev n_at : ℕ → Tree
@@ -33,7 +34,7 @@ abbrev class : Tree → Result ProperTerm TermRefusal
 class t = (class_of t).outcome
 
 abbrev form_k : LinearForm
-form_k = with_numbers (pos 0) (pos 1) (pos 0)
+form_k = form_with (pos 0) (pos 1) (pos 0)
 
 known_divisors : (greatest_common_divisor 12 18 ≡ 6) × (greatest_common_divisor 0 7 ≡ 7) × (greatest_common_divisor 0 0 ≡ 0)
 known_divisors = (refl, refl, refl)
@@ -43,10 +44,10 @@ known_lowest : (lowest_terms (fraction (pos 6) (negsuc 3)) ≡ fraction (negsuc 
 known_lowest = (refl, refl)
 
 -- 2*k, -6*n+4*k and 4-2*n
-known_contents : (content_of_form (with_numbers (pos 0) (pos 2) (pos 0)) ≡ pos 2)
-    × (primitive_form (with_numbers (pos 0) (pos 2) (pos 0)) ≡ form_k)
-    × (content_of_form (with_numbers (negsuc 5) (pos 4) (pos 0)) ≡ pos 2)
-    × (primitive_form (with_numbers (negsuc 1) (pos 0) (pos 4)) ≡ with_numbers (pos 1) (pos 0) (negsuc 1))
+known_contents : (content_of_form (form_with (pos 0) (pos 2) (pos 0)) ≡ pos 2)
+    × (primitive_form (form_with (pos 0) (pos 2) (pos 0)) ≡ form_k)
+    × (content_of_form (form_with (negsuc 5) (pos 4) (pos 0)) ≡ pos 2)
+    × (primitive_form (form_with (negsuc 1) (pos 0) (pos 4)) ≡ form_with (pos 1) (pos 0) (negsuc 1))
 known_contents = (refl, refl, refl, refl)
 
 -- n^k
@@ -64,7 +65,7 @@ power_zero = (refl, refl)
 
 -- binomial(k,k), whose k! stands above and below
 binomial_of_same : class (tree 0 (binomial_of (k_at 9) (k_at 11)))
-    ≡ Ok (with_lists [] (factor_with (with_numbers (pos 0) (pos 0) (pos 0)) 1 ∷ []) [] (factor_with form_k 1 ∷ []) unit_term)
+    ≡ Ok (with_lists [] (factor_with (form_with (pos 0) (pos 0) (pos 0)) 1 ∷ []) [] (factor_with form_k 1 ∷ []) unit_term)
 binomial_of_same = refl
 
 -- k! divided by k!
@@ -108,7 +109,7 @@ half_of_one_over l = with_scale (fraction (pos 1) (pos 2)) (with_lists [] [] (fa
 -- 1/(2*k-4) and 1/(k+k): the denominator is primitive
 primitive_denominators : (class (tree 1 (product_of (both (number_at 0 1) true
     (tree 6 (sum_of (both (tree 4 (product_of (both (number_at 3 2) false (k_at 5)))) true (number_at 7 4)))))))
-    ≡ Ok (half_of_one_over (with_numbers (pos 0) (pos 1) (negsuc 1))))
+    ≡ Ok (half_of_one_over (form_with (pos 0) (pos 1) (negsuc 1))))
     × (class (tree 1 (product_of (both (number_at 0 1) true (tree 4 (sum_of (both (k_at 3) false (k_at 5))))))) ≡ Ok (half_of_one_over form_k))
 unfolding pow lib.IntN.one
 primitive_denominators = (refl, refl)

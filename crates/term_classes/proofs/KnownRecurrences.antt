@@ -2,11 +2,11 @@
 use Rattle.std.proofs.Common.{arith}
 use Rattle.std.specs.Prelude.{◌≡◌, ℕ, pos, false, [], ◌∷◌, Ok, Err, refl}
 use Rattle.ring_laws.specs.Meaning.{Meaning, number, listed}
-use Rattle.hypergeometric.specs.Tree.{Tree, tree, literal, variable_n, variable_k, sum_of, product_of, power_of, factorial_of, no_parts, part}
 use Rattle.steps.specs.Operations.{of_polynomial}
 use Rattle.steps.specs.Steps.{limit, IsTooLargeAt}
 use Rattle.steps.specs.TermFaults.{improper}
 use Rattle.steps.specs.declared.limits.LimitName.TheVariants.{Order}
+use Rattle.grammar.specs.Tree.{Tree, tree, literal, variable_n, variable_k, sum_of, product_of, power_of, factorial_of, no_parts, part}
 use Rattle.term_classes.specs.Walk.{class_of}
 use Rattle.term_classes.specs.Recurrence.{recurrence_sought}
 

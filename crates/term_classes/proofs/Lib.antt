@@ -1,8 +1,4 @@
-pub mod SameValues
-pub mod FractionPowers
-pub mod NonzeroPowers
-pub mod GreatestDivisors
-pub mod LowestTerms
+pub mod KnownSquares
 pub mod PolynomialParts
 pub mod PolynomialValues
 pub mod PassingPolynomials
@@ -18,9 +14,6 @@ pub mod WholeValues
 pub mod WalkRows
 pub mod ArgumentRows
 pub mod WalkValues
-pub mod SharedForms
-pub mod SharedProducts
-pub mod DefinedValues
 pub mod CancelledValues
 pub mod RowFacts
 pub mod KeptRows
@@ -28,12 +21,11 @@ pub mod WalkKeeps
 pub mod GatheredLists
 pub mod ClassesHaveValues
 pub mod ReducedFractions
-pub mod OnlyLowest
 pub mod LowestConstants
 pub mod NonzeroPolynomials
 pub mod PrimitiveDenominators
-pub mod SharedTotals
-pub mod LeftLists
 pub mod PlainClasses
 mod KnownClasses
 mod KnownRecurrences
+mod KnownValues
+mod KnownNamesOfK

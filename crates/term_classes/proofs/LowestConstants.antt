@@ -7,23 +7,24 @@ use Rattle.std.proofs.Math.Nat.{one-dvd, div-le_self}
 use Rattle.std.specs.Int.{◌∣◌}
 use Rattle.std.specs.Prelude.{ℤ, pos, negsuc, unsigned_abs, Ok}
 use Rattle.ring_laws.specs.WholeDomain.{abs_nought}
-use Rattle.ring_laws.proofs.Quotients.{abs_div}
 use Rattle.ring_laws.specs.Meaning.{Meaning, items}
-use Rattle.hypergeometric.specs.Fraction.{Fraction, IsDefined, of_whole, fraction_negative}
-use Rattle.hypergeometric.specs.Tree.{Tree, tree, Node, literal, variable_n, variable_k, sum_of, product_of, power_of, factorial_of, binomial_of, no_parts, part}
-use Rattle.hypergeometric.specs.TreePolynomial.{constant_in_k, constant_of}
-use Rattle.steps.proofs.StepLaws.{then_gave, same_Ok}
+use Rattle.ring_laws.proofs.Quotients.{abs_div}
+use Rattle.poly_laws.specs.TwoVariables.{constant_in_k}
 use Rattle.steps.specs.Found.{where_some}
 use Rattle.steps.specs.Operations.{of_fraction}
 use Rattle.steps.specs.Steps.{gives, within_limit, ◌then◌}
 use Rattle.steps.specs.TermFaults.{TermSteps}
 use Rattle.steps.specs.declared.limits.LimitName.TheVariants.{Exponent}
-use Rattle.term_classes.specs.Divisors.{turned_where, lowest_terms, raised_fraction, size_of_top, size_of_bottom}
-use Rattle.term_classes.specs.Forms.{is_zero}
+use Rattle.steps.proofs.StepLaws.{then_gave, same_Ok}
+use Rattle.hypergeometric.specs.Fraction.{Fraction, IsDefined, of_whole, fraction_negative}
+use Rattle.hypergeometric.specs.Divisors.{turned_where, lowest_terms, raised_fraction, size_of_top, size_of_bottom}
+use Rattle.hypergeometric.specs.PrimitiveForm.{is_zero}
+use Rattle.hypergeometric.proofs.LowestTerms.{divisor_of, is_turned, turned_size}
+use Rattle.hypergeometric.proofs.ReducedFractions.{HasLowestTerms, lowest_has_terms}
+use Rattle.grammar.specs.Tree.{Tree, tree, Node, literal, variable_n, variable_k, sum_of, product_of, power_of, factorial_of, binomial_of, no_parts, part}
+use Rattle.term_classes.specs.TreePolynomial.{constant_of}
 use Rattle.term_classes.specs.Sought.{FractionFactor, divides_by_zero, product_of_fractions, product_made, power_made, whole_fraction, negative_of, top_sizes, bottom_sizes, polynomial_sought, node_polynomial_sought, constant_sought, node_constant_sought, constants_sought}
-use Rattle.term_classes.proofs.LowestTerms.{divisor_of, is_turned, turned_size}
 use Rattle.term_classes.proofs.ConstantValues.{constant_has}
-use Rattle.term_classes.proofs.ReducedFractions.{HasLowestTerms, lowest_has_terms}
 use Rattle.term_classes.proofs.ConstantPowers.{unless_given}
 
 whole_terms : (z : ℤ) → HasLowestTerms (of_whole z)

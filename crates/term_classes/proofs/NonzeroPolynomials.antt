@@ -1,7 +1,7 @@
 -- The polynomial that a walk over a tree gathers belongs to the polynomials, and isn't 0.
 use Rattle.std.proofs.Common.{◌≢◌}
+use Rattle.poly_laws.specs.TwoVariables.{in_n_and_k, poly_power}
 use Rattle.hypergeometric.specs.ProperTerm.{ProperTerm}
-use Rattle.hypergeometric.specs.TreePolynomial.{in_n_and_k, poly_power}
 use Rattle.term_classes.proofs.PassingPolynomials.{Belongs, power_belongs, product_belongs, product_not_nought, power_not_nought}
 use Rattle.term_classes.proofs.VaryingForms.{varying_not_nought}
 use Rattle.term_classes.proofs.RowFacts.{RowsKeep}

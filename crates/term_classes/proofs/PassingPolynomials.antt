@@ -7,10 +7,11 @@ use Rattle.ring_laws.specs.Algebra.{Closed}
 use Rattle.ring_laws.specs.Division.{DomainLaws}
 use Rattle.ring_laws.specs.WholeDomain.{whole_domain}
 use Rattle.poly_laws.specs.Values.{level}
+use Rattle.poly_laws.specs.TwoVariables.{in_n_and_k, poly_n, poly_k, poly_power}
 use Rattle.poly_laws.proofs.Equal.{level_laws}
 use Rattle.poly_laws.proofs.PolyDomain.{poly_domain}
-use Rattle.hypergeometric.specs.Tree.{Tree, tree, Node, literal, variable_n, variable_k, sum_of, product_of, power_of, factorial_of, binomial_of, Parts, no_parts, part}
-use Rattle.hypergeometric.specs.TreePolynomial.{in_n_and_k, poly_n, poly_k, poly_power, signed_poly, raised, tree_polynomial, node_polynomial, sum_polynomial, product_polynomial, constant_exponent}
+use Rattle.grammar.specs.Tree.{Tree, tree, Node, literal, variable_n, variable_k, sum_of, product_of, power_of, factorial_of, binomial_of, Parts, no_parts, part}
+use Rattle.term_classes.specs.TreePolynomial.{signed_poly, raised, tree_polynomial, node_polynomial, sum_polynomial, product_polynomial, constant_exponent}
 use Rattle.term_classes.proofs.PolynomialParts.{from_combined, unless}
 
 -- it belongs to the polynomials

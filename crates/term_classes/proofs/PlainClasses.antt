@@ -5,30 +5,31 @@ use Rattle.std.proofs.lemmas.Nat.Gcd.{dvd_antisymm}
 use Rattle.std.proofs.Math.Nat.{one-dvd}
 use Rattle.std.specs.Prelude.{ℤ, pos, negsuc, Ok}
 use Rattle.std.specs.List.{AllByRecursion}
+use Rattle.steps.specs.Steps.{gives, ◌then◌}
+use Rattle.steps.proofs.StepLaws.{then_gave, same_Ok}
 use Rattle.hypergeometric.specs.Fraction.{of_whole}
 use Rattle.hypergeometric.specs.LinearForm.{LinearForm, Factor}
 use Rattle.hypergeometric.specs.FormOrder.{NoFormTwice}
 use Rattle.hypergeometric.specs.ProperTerm.{ProperTerm}
 use Rattle.hypergeometric.specs.TermFacts.{IsWithinLimits, IsProper, IsPlain, total_power}
-use Rattle.hypergeometric.specs.Tree.{Tree}
+use Rattle.hypergeometric.specs.FactorLists.{power_of, in_both, without}
 use Rattle.hypergeometric.proofs.FractionLaws.{one_not_zero}
-use Rattle.lin_form.specs.FactorLists.{power_of}
-use Rattle.steps.proofs.StepLaws.{then_gave, same_Ok}
-use Rattle.steps.specs.Steps.{gives, ◌then◌}
-use Rattle.term_classes.specs.Walk.{unit_term, in_both, without, cancelled, walk, class_of, class_of_quotient}
+use Rattle.hypergeometric.proofs.ReducedFractions.{IsReduced, reduced_lowest}
+use Rattle.hypergeometric.proofs.SharedForms.{own_powers, both_forms, both_distinct, both_in_first, both_in_second, both_below_first, both_below_second, without_forms, without_distinct}
+use Rattle.hypergeometric.proofs.SharedTotals.{total_parts}
+use Rattle.hypergeometric.proofs.LeftLists.{without_each, both_each, both_power, left_powers, each_pair}
+use Rattle.grammar.specs.Tree.{Tree}
+use Rattle.term_classes.specs.Walk.{unit_term, cancelled, walk, class_of, class_of_quotient}
 use Rattle.term_classes.specs.ClassBounds.{IsTermInBounds}
 use Rattle.term_classes.proofs.PassingPolynomials.{unit_belongs, unit_not_nought}
-use Rattle.term_classes.proofs.SharedForms.{own_powers, both_forms, both_distinct, both_in_first, both_in_second, both_below_first, both_below_second, without_forms, without_distinct}
-use Rattle.term_classes.proofs.SharedTotals.{total_parts}
 use Rattle.term_classes.proofs.CancelledValues.{at_most_own}
 use Rattle.term_classes.proofs.WalkKeeps.{walk_keeps}
 use Rattle.term_classes.proofs.WalkValues.{minus_one_not_zero}
 use Rattle.term_classes.proofs.GatheredLists.{HasLists, lists_keep, list_some}
-use Rattle.term_classes.proofs.ReducedFractions.{IsReduced, HasReduced, fractions_keep, reduced_lowest}
+use Rattle.term_classes.proofs.ReducedFractions.{HasReduced, fractions_keep}
 use Rattle.term_classes.proofs.NonzeroPolynomials.{HasPolynomial, polynomials_keep}
 use Rattle.term_classes.proofs.PrimitiveDenominators.{HasPrimitive, denominators_keep}
 use Rattle.term_classes.proofs.ClassesHaveValues.{unit_lists}
-use Rattle.term_classes.proofs.LeftLists.{without_each, both_each, both_power, left_powers, each_pair}
 
 -- what a term gathers in a walk
 pub record IsGathered (s : ProperTerm) : Type 0 where

@@ -7,16 +7,17 @@ use Rattle.std.specs.Prelude.{ℤ, pos, negsuc, ◌+ℤ◌, ◌*ℤ◌, neg_ℤ,
 use Rattle.ring_solver.proofs.Read.{ring_z, reading_z}
 use Rattle.ring_laws.specs.Meaning.{Meaning}
 use Rattle.poly_laws.specs.Values.{KeepsOps}
+use Rattle.poly_laws.specs.TwoVariables.{in_n_and_k, poly_n, poly_k, poly_power}
 use Rattle.poly_laws.proofs.Keeps.{value_at_keeps}
 use Rattle.hypergeometric.specs.Point.{Point, values}
 use Rattle.hypergeometric.specs.Fraction.{Fraction, of_whole, fraction_sum, fraction_negative, fraction_product, natural_power, whole_power}
 use Rattle.hypergeometric.specs.ProperTerm.{poly_value}
-use Rattle.hypergeometric.specs.Tree.{Tree, Node}
-use Rattle.hypergeometric.specs.TreePolynomial.{in_n_and_k, poly_n, poly_k, poly_power, combined, signed_poly, raised}
-use Rattle.hypergeometric.specs.TreeValue.{tree_value, node_value, signed_value}
 use Rattle.hypergeometric.proofs.PlainTerms.{whole_power_of_one}
-use Rattle.term_classes.proofs.SameValues.{◌≅◌, same, same_itself, same_chain, same_products, same_negatives}
-use Rattle.term_classes.proofs.FractionPowers.{product_one, whole_power_of_product, natural_then_whole}
+use Rattle.hypergeometric.proofs.SameValues.{◌≅◌, same, same_itself, same_chain, same_products, same_negatives}
+use Rattle.hypergeometric.proofs.FractionPowers.{product_one, whole_power_of_product, natural_then_whole}
+use Rattle.grammar.specs.Tree.{Tree, Node}
+use Rattle.term_classes.specs.TreePolynomial.{combined, signed_poly, raised}
+use Rattle.term_classes.specs.TreeValue.{tree_value, node_value, signed_value}
 
 -- the values of the operations
 module _ (p : Point) where

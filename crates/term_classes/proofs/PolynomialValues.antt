@@ -3,15 +3,16 @@ use Rattle.std.proofs.Common.{◌≡◌, ap, sym, ◌∙◌, true, false, Some}
 use Rattle.std.proofs.lemmas.Option.{same_Some, none-some}
 use Rattle.std.specs.Prelude.{ℤ, pos, ◌*ℤ◌}
 use Rattle.ring_laws.specs.Meaning.{Meaning}
+use Rattle.poly_laws.specs.TwoVariables.{in_n_and_k, poly_n, poly_k}
 use Rattle.hypergeometric.specs.Point.{Point}
 use Rattle.hypergeometric.specs.Fraction.{of_whole, whole_power}
 use Rattle.hypergeometric.specs.ProperTerm.{poly_value}
-use Rattle.hypergeometric.specs.Tree.{Tree, tree, Node, literal, variable_n, variable_k, sum_of, product_of, power_of, factorial_of, binomial_of, Parts, no_parts, part}
-use Rattle.hypergeometric.specs.TreePolynomial.{in_n_and_k, poly_n, poly_k, signed_poly, tree_polynomial, node_polynomial, sum_polynomial, product_polynomial, constant_exponent}
-use Rattle.hypergeometric.specs.TreeValue.{tree_value, sum_value, product_value, signed_value, at_whole, defined_power}
 use Rattle.hypergeometric.proofs.PlainTerms.{whole_power_of_one}
-use Rattle.term_classes.proofs.SameValues.{◌≅◌, same, same_chain, same_products, same_sums, same_whole_powers}
-use Rattle.term_classes.proofs.FractionPowers.{whole_power_of_product}
+use Rattle.hypergeometric.proofs.SameValues.{◌≅◌, same, same_chain, same_products, same_sums, same_whole_powers}
+use Rattle.hypergeometric.proofs.FractionPowers.{whole_power_of_product}
+use Rattle.grammar.specs.Tree.{Tree, tree, Node, literal, variable_n, variable_k, sum_of, product_of, power_of, factorial_of, binomial_of, Parts, no_parts, part}
+use Rattle.term_classes.specs.TreePolynomial.{signed_poly, tree_polynomial, node_polynomial, sum_polynomial, product_polynomial, constant_exponent}
+use Rattle.term_classes.specs.TreeValue.{tree_value, sum_value, product_value, signed_value, at_whole, defined_power}
 use Rattle.term_classes.proofs.PolynomialParts.{keeps, whole_sum, variable_n_value, variable_k_value, IsPower, NodeIsPower, from_combined, signed_has, turned_has, raised_has}
 
 mutual

@@ -4,18 +4,19 @@ use Rattle.std.proofs.lemmas.Int.{ints}
 use Rattle.std.proofs.lemmas.Bool.{leb-true}
 use Rattle.std.specs.Prelude.{ℤ, pos, neg_ℤ, unsigned_abs, if◌then◌else◌, Ok}
 use Rattle.ring_laws.specs.Meaning.{Meaning}
+use Rattle.poly_laws.specs.TwoVariables.{in_n_and_k, poly_power}
+use Rattle.steps.specs.Steps.{within_limit, ◌then◌}
+use Rattle.steps.specs.declared.limits.LimitName.TheVariants.{Slope, Offset, Factors}
+use Rattle.steps.proofs.StepLaws.{then_gave, limit_gave}
 use Rattle.hypergeometric.specs.Fraction.{Fraction, fraction_product}
 use Rattle.hypergeometric.specs.LinearForm.{LinearForm}
 use Rattle.hypergeometric.specs.ProperTerm.{ProperTerm, IsNonzero}
 use Rattle.hypergeometric.specs.TermFacts.{IsWithinLimits, total_power}
-use Rattle.hypergeometric.specs.TreePolynomial.{in_n_and_k, poly_power}
-use Rattle.hypergeometric.specs.TreeValue.{part_power}
-use Rattle.lin_form.specs.FactorLists as lists
-use Rattle.steps.proofs.StepLaws.{then_gave, limit_gave}
-use Rattle.steps.specs.Steps.{within_limit, ◌then◌}
-use Rattle.steps.specs.declared.limits.LimitName.TheVariants.{Slope, Offset, Factors}
-use Rattle.term_classes.specs.Divisors.{lowest_terms, raised_fraction}
-use Rattle.term_classes.specs.Forms.{linear_form_of, primitive_form, limited_form}
+use Rattle.hypergeometric.specs.FactorLists as lists
+use Rattle.hypergeometric.specs.Divisors.{lowest_terms, raised_fraction}
+use Rattle.hypergeometric.specs.PrimitiveForm.{primitive_form}
+use Rattle.term_classes.specs.TreeValue.{part_power}
+use Rattle.term_classes.specs.Forms.{linear_form_of, limited_form}
 use Rattle.term_classes.specs.Walk.{with_poly, with_scale, with_n_base, with_k_base, with_lists, few_factors}
 use Rattle.term_classes.proofs.VaryingForms.{IsVarying}
 

@@ -3,14 +3,15 @@ use Rattle.std.proofs.Common.{◌≡◌, ℕ, suc, ◌≤◌, refl, ap, ◌∙�
 use Rattle.std.proofs.lemmas.Bool.{leb-true, ltb-true, cond_both}
 use Rattle.std.specs.Prelude.{ℤ, pos, negsuc, unsigned_abs, if◌then◌else◌, nat_lt, Ok}
 use Rattle.ring_laws.specs.Meaning.{Meaning}
-use Rattle.hypergeometric.specs.Tree.{Tree, tree, Node, literal, variable_n, variable_k, sum_of, product_of, power_of, factorial_of, binomial_of, Parts, no_parts, part}
-use Rattle.hypergeometric.specs.TreePolynomial.{in_n_and_k, poly_n, poly_k, poly_power, constant_of, combined, signed_poly, raised, tree_polynomial, node_polynomial, sum_polynomial, product_polynomial}
-use Rattle.steps.proofs.StepLaws.{then_gave, same_Ok, limit_gave}
+use Rattle.poly_laws.specs.TwoVariables.{in_n_and_k, poly_n, poly_k, poly_power}
 use Rattle.steps.specs.Found.{in_front, made_of, where_some}
 use Rattle.steps.specs.Operations.{Counterpart, of_polynomial}
 use Rattle.steps.specs.TermFaults.{Improper}
 use Rattle.steps.specs.Steps.{gives, within_limit, ◌then◌}
 use Rattle.steps.specs.declared.limits.LimitName.TheVariants.{Exponent}
+use Rattle.steps.proofs.StepLaws.{then_gave, same_Ok, limit_gave}
+use Rattle.grammar.specs.Tree.{Tree, tree, Node, literal, variable_n, variable_k, sum_of, product_of, power_of, factorial_of, binomial_of, Parts, no_parts, part}
+use Rattle.term_classes.specs.TreePolynomial.{constant_of, combined, signed_poly, raised, tree_polynomial, node_polynomial, sum_polynomial, product_polynomial}
 use Rattle.term_classes.specs.Sought.{size_raised, sum_of_polynomials, product_of_polynomials, sizes_added, sizes_multiplied, signed_polynomial, raised_at, where_natural, polynomial_sought, node_polynomial_sought, summands_sought, factors_sought}
 
 abbrev where_there : {A B : Type 0} → (A → B) → Option A → Option B

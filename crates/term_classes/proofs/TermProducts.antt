@@ -6,13 +6,13 @@ use Rattle.hypergeometric.specs.Point.{Point}
 use Rattle.hypergeometric.specs.Fraction.{Fraction, of_whole, fraction_product, natural_power, whole_power}
 use Rattle.hypergeometric.specs.LinearForm.{LinearForm, Factor, form_value, product_over}
 use Rattle.hypergeometric.specs.ProperTerm.{ProperTerm, proper_value, IsNonzero, HasFractions}
-use Rattle.lin_form.specs.FactorLists as lists
-use Rattle.lin_form.proofs.Lookups.{same_form_found}
-use Rattle.term_classes.specs.Divisors.{lowest_terms, raised_fraction}
-use Rattle.term_classes.proofs.SameValues.{◌≅◌, same, same_itself, same_chain, same_products}
-use Rattle.term_classes.proofs.FractionPowers.{product_comm, product_assoc, product_one, power_of_sum}
-use Rattle.term_classes.proofs.NonzeroPowers.{product_nonzero}
-use Rattle.term_classes.proofs.LowestTerms.{lowest_same, lowest_nonzero, raised_same, raised_nonzero}
+use Rattle.hypergeometric.specs.FactorLists as lists
+use Rattle.hypergeometric.specs.Divisors.{lowest_terms, raised_fraction}
+use Rattle.hypergeometric.proofs.Lookups.{same_form_found}
+use Rattle.hypergeometric.proofs.SameValues.{◌≅◌, same, same_itself, same_chain, same_products}
+use Rattle.hypergeometric.proofs.FractionPowers.{product_comm, product_assoc, product_one, power_of_sum}
+use Rattle.hypergeometric.proofs.NonzeroPowers.{product_nonzero}
+use Rattle.hypergeometric.proofs.LowestTerms.{lowest_same, lowest_nonzero, raised_same, raised_nonzero}
 
 -- the value of s' is that of s times v, and the scale and the bases of s' aren't 0
 pub record IsTimes (s s' : ProperTerm) (v : Point → Fraction) : Type 0 where

@@ -9,11 +9,12 @@ use Rattle.ring_laws.specs.Wholes.{number_of, is_zero}
 use Rattle.poly_laws.specs.Lists.{is_trimmed}
 use Rattle.poly_laws.specs.PolyAlgebra.{every_passes, is_empty, poly_passes}
 use Rattle.poly_laws.specs.Values.{level}
+use Rattle.poly_laws.specs.TwoVariables.{in_n_and_k, constant_in_n, constant_in_k}
 use Rattle.hypergeometric.specs.LinearForm.{LinearForm}
 use Rattle.hypergeometric.specs.TermFacts.{IsNotConstant}
-use Rattle.hypergeometric.specs.TreePolynomial.{in_n_and_k, constant_in_n, constant_in_k}
-use Rattle.lin_form.proofs.PrimitiveForms.{IsNotZero}
-use Rattle.term_classes.specs.Forms.{with_numbers, form_of_coefficients, form_of_items, linear_form_of}
+use Rattle.hypergeometric.specs.Forms.{form_with}
+use Rattle.hypergeometric.proofs.PrimitiveForms.{IsNotZero}
+use Rattle.term_classes.specs.Forms.{form_of_coefficients, form_of_items, linear_form_of}
 use Rattle.term_classes.proofs.PassingPolynomials.{Belongs}
 
 -- a polynomial that is no number
@@ -46,14 +47,14 @@ n_slope_not_zero : (xs : List Meaning) (s : ℤ) (l : LinearForm) → is_trimmed
     → form_of_coefficients xs (Some s) ≡ Some l → l.n_slope ≢ pos 0
 n_slope_not_zero [] s l t n e = absurd (none-some (pos 0) (sym n))
 n_slope_not_zero (c ∷ []) s l t n e = absurd (none-some (number_of c) (sym n))
-n_slope_not_zero (c ∷ d ∷ []) s l t n e = subst (λ (l : LinearForm). l.n_slope ≢ pos 0) (same_Some (with_numbers (number_of d) s (number_of c)) l e)
+n_slope_not_zero (c ∷ d ∷ []) s l t n e = subst (λ (l : LinearForm). l.n_slope ≢ pos 0) (same_Some (form_with (number_of d) s (number_of c)) l e)
     (last_number d t)
 n_slope_not_zero (c ∷ d ∷ b ∷ xs) s l t n e = absurd (none-some l e)
 
 given_slope : (xs : List Meaning) (s : ℤ) (l : LinearForm) → s ≢ pos 0 → form_of_coefficients xs (Some s) ≡ Some l → l.k_slope ≢ pos 0
-given_slope [] s l n e = subst (λ (l : LinearForm). l.k_slope ≢ pos 0) (same_Some (with_numbers (pos 0) s (pos 0)) l e) n
-given_slope (c ∷ []) s l n e = subst (λ (l : LinearForm). l.k_slope ≢ pos 0) (same_Some (with_numbers (pos 0) s (number_of c)) l e) n
-given_slope (c ∷ d ∷ []) s l n e = subst (λ (l : LinearForm). l.k_slope ≢ pos 0) (same_Some (with_numbers (number_of d) s (number_of c)) l e) n
+given_slope [] s l n e = subst (λ (l : LinearForm). l.k_slope ≢ pos 0) (same_Some (form_with (pos 0) s (pos 0)) l e) n
+given_slope (c ∷ []) s l n e = subst (λ (l : LinearForm). l.k_slope ≢ pos 0) (same_Some (form_with (pos 0) s (number_of c)) l e) n
+given_slope (c ∷ d ∷ []) s l n e = subst (λ (l : LinearForm). l.k_slope ≢ pos 0) (same_Some (form_with (number_of d) s (number_of c)) l e) n
 given_slope (c ∷ d ∷ b ∷ xs) s l n e = absurd (none-some l e)
 
 k_slope_not_zero : (xs ys : List Meaning) (l : LinearForm) → not (is_empty ys) ≡ true → is_trimmed (level 0).ops ys ≡ true

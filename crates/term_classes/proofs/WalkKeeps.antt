@@ -1,17 +1,18 @@
 -- What each row of the walk over a tree keeps, the walk keeps.
 use Rattle.std.proofs.Common.{◌≡◌, ◌≢◌, ℕ, true, false, Some, None, subst}
 use Rattle.std.specs.Prelude.{ℤ, pos, negsuc, ◌*ℤ◌, unsigned_abs, if◌then◌else◌, Ok}
-use Rattle.hypergeometric.specs.Fraction.{of_whole, fraction_product}
-use Rattle.hypergeometric.specs.ProperTerm.{ProperTerm}
-use Rattle.hypergeometric.specs.Tree.{Tree, tree, Node, literal, variable_n, variable_k, sum_of, product_of, power_of, factorial_of, binomial_of, Parts, no_parts, part}
-use Rattle.hypergeometric.specs.TreePolynomial.{constant_of}
-use Rattle.hypergeometric.specs.TreeValue.{part_power}
-use Rattle.steps.proofs.StepLaws.{then_gave, same_Ok}
 use Rattle.steps.specs.Steps.{gives, within_limit, ◌then◌}
 use Rattle.steps.specs.TermFaults.{TermSteps}
 use Rattle.steps.specs.declared.limits.LimitName.TheVariants.{Exponent}
-use Rattle.term_classes.specs.Divisors.{lowest_terms, raised_fraction}
-use Rattle.term_classes.specs.Forms.{is_zero, linear_form_of, limited_form}
+use Rattle.steps.proofs.StepLaws.{then_gave, same_Ok}
+use Rattle.hypergeometric.specs.Fraction.{of_whole, fraction_product}
+use Rattle.hypergeometric.specs.ProperTerm.{ProperTerm}
+use Rattle.hypergeometric.specs.Divisors.{lowest_terms, raised_fraction}
+use Rattle.hypergeometric.specs.PrimitiveForm.{is_zero}
+use Rattle.grammar.specs.Tree.{Tree, tree, Node, literal, variable_n, variable_k, sum_of, product_of, power_of, factorial_of, binomial_of, Parts, no_parts, part}
+use Rattle.term_classes.specs.TreePolynomial.{constant_of}
+use Rattle.term_classes.specs.TreeValue.{part_power}
+use Rattle.term_classes.specs.Forms.{linear_form_of, limited_form}
 use Rattle.term_classes.specs.Sought.{polynomial_sought}
 use Rattle.term_classes.specs.Walk.{with_scale, place_of, with_factorial, argument_sought, not_negative, walk, walk_node, walk_parts}
 use Rattle.term_classes.proofs.WalkRows.{whole_nonzero}

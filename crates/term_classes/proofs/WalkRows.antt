@@ -2,31 +2,33 @@
 use Rattle.std.proofs.Common.{◌≡◌, ◌≢◌, ℕ, suc, ◌+◌, refl, ap, sym, ◌∙◌, Bool, true, false, Option, Some, None, subst}
 use Rattle.std.specs.Prelude.{ℤ, pos, negsuc, int_lt, if◌then◌else◌, Ok}
 use Rattle.ring_laws.specs.Meaning.{Meaning, items}
+use Rattle.poly_laws.specs.TwoVariables.{in_n_and_k, poly_power, constant_in_k}
+use Rattle.steps.specs.Steps.{gives, refuses, ◌then◌}
+use Rattle.steps.specs.TermFaults.{improper, TermSteps}
+use Rattle.steps.specs.declared.limits.LimitName.TheVariants.{Factors}
+use Rattle.steps.proofs.StepLaws.{then_gave, same_Ok, limit_gave, not_refused}
 use Rattle.hypergeometric.specs.Point.{Point}
 use Rattle.hypergeometric.specs.Fraction.{Fraction, of_whole, fraction_product, fraction_inverse, natural_power, whole_power}
 use Rattle.hypergeometric.specs.LinearForm.{LinearForm, form_value}
 use Rattle.hypergeometric.specs.ProperTerm.{ProperTerm, poly_value, IsNonzero, HasFractions}
-use Rattle.hypergeometric.specs.TreePolynomial.{in_n_and_k, poly_power, constant_in_k}
-use Rattle.hypergeometric.specs.TreeValue.{factorial_power}
 use Rattle.hypergeometric.specs.TermFacts.{total_power}
+use Rattle.hypergeometric.specs.FactorLists as lists
+use Rattle.hypergeometric.specs.Divisors.{lowest_terms, raised_fraction}
+use Rattle.hypergeometric.specs.PrimitiveForm.{is_zero, content_of_form, primitive_form}
 use Rattle.hypergeometric.proofs.FractionLaws.{one_not_zero}
-use Rattle.lin_form.specs.FactorLists as lists
-use Rattle.steps.proofs.StepLaws.{then_gave, same_Ok, limit_gave, not_refused}
-use Rattle.steps.specs.Steps.{gives, refuses, ◌then◌}
-use Rattle.steps.specs.TermFaults.{improper, TermSteps}
-use Rattle.steps.specs.declared.limits.LimitName.TheVariants.{Factors}
-use Rattle.term_classes.specs.Divisors.{lowest_terms, raised_fraction}
-use Rattle.term_classes.specs.Forms.{is_zero, linear_form_of, content_of_form, primitive_form, limited_form}
+use Rattle.hypergeometric.proofs.SameValues.{◌≅◌, same, same_chain, same_turned}
+use Rattle.hypergeometric.proofs.FractionPowers.{product_comm, whole_power_of_product}
+use Rattle.hypergeometric.proofs.Contents.{content_not_zero, content_times}
+use Rattle.term_classes.specs.TreeValue.{factorial_power}
+use Rattle.term_classes.specs.Forms.{linear_form_of, limited_form}
 use Rattle.term_classes.specs.Walk.{with_lists, with_scale, with_poly, times_power, few_factors, with_factorial, with_denominator, times_number, times_polynomial, times_sought}
-use Rattle.term_classes.proofs.SameValues.{◌≅◌, same, same_chain, same_turned}
-use Rattle.term_classes.proofs.FractionPowers.{product_comm, whole_power_of_product}
 use Rattle.term_classes.proofs.PassingPolynomials.{Belongs}
 use Rattle.term_classes.proofs.VaryingForms.{IsVarying, varying_not_zero}
 use Rattle.term_classes.proofs.PolynomialParts.{value_of_power}
 use Rattle.term_classes.proofs.ConstantPowers.{constant_value, not_zero}
 use Rattle.term_classes.proofs.TermProducts.{IsTimes, times_both, times_same}
 use Rattle.term_classes.proofs.FieldProducts.{scale_times, poly_times, up_times, down_times, over_times}
-use Rattle.term_classes.proofs.FormValues.{linear_value, content_not_zero, content_times}
+use Rattle.term_classes.proofs.FormValues.{linear_value}
 
 pub few_same : (s s' : ProperTerm) → (few_factors s).outcome ≡ Ok s' → s ≡ s'
 few_same s s' e = (limit_gave Factors (total_power s.up + total_power s.down + total_power s.over) s s' e).same

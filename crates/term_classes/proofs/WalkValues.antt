@@ -1,26 +1,27 @@
 -- The walk over a tree multiplies the value of a term by that of the tree.
 use Rattle.std.proofs.Common.{◌≡◌, ◌≢◌, ℕ, refl, ap, sym, ◌∙◌, Bool, true, false, Option, Some, None, arith, subst}
 use Rattle.std.proofs.lemmas.Int.{ints}
-use Rattle.ring_laws.specs.Meaning.{Meaning}
 use Rattle.std.specs.Prelude.{ℤ, pos, negsuc, ◌*ℤ◌, unsigned_abs, if◌then◌else◌, Ok}
+use Rattle.ring_laws.specs.Meaning.{Meaning}
+use Rattle.steps.specs.Steps.{gives, refuses, within_limit, ◌then◌}
+use Rattle.steps.specs.TermFaults.{improper, TermSteps}
+use Rattle.steps.specs.declared.limits.LimitName.TheVariants.{Exponent}
+use Rattle.steps.proofs.StepLaws.{then_gave, same_Ok, not_refused}
 use Rattle.hypergeometric.specs.Point.{Point}
 use Rattle.hypergeometric.specs.Fraction.{Fraction, of_whole, fraction_product, whole_power}
 use Rattle.hypergeometric.specs.LinearForm.{LinearForm, form_value}
 use Rattle.hypergeometric.specs.ProperTerm.{ProperTerm, HasFractions}
-use Rattle.hypergeometric.specs.Tree.{Tree, tree, Node, literal, variable_n, variable_k, sum_of, product_of, power_of, factorial_of, binomial_of, Parts, no_parts, part}
-use Rattle.hypergeometric.specs.TreePolynomial.{constant_of, tree_polynomial}
-use Rattle.hypergeometric.specs.TreeValue.{tree_value, node_value, product_value, part_power, factorial_power, at_whole, defined_power}
+use Rattle.hypergeometric.specs.Divisors.{lowest_terms, raised_fraction}
+use Rattle.hypergeometric.specs.PrimitiveForm.{is_zero}
 use Rattle.hypergeometric.proofs.FractionLaws.{one_not_zero}
-use Rattle.steps.proofs.StepLaws.{then_gave, same_Ok, not_refused}
-use Rattle.steps.specs.Steps.{gives, refuses, within_limit, ◌then◌}
-use Rattle.steps.specs.TermFaults.{improper, TermSteps}
-use Rattle.steps.specs.declared.limits.LimitName.TheVariants.{Exponent}
-use Rattle.term_classes.specs.Divisors.{lowest_terms, raised_fraction}
-use Rattle.term_classes.specs.Forms.{is_zero, linear_form_of, limited_form, limited_exponent}
+use Rattle.hypergeometric.proofs.SameValues.{◌≅◌, same, same_chain, same_turned, same_defined, same_whole_powers}
+use Rattle.hypergeometric.proofs.FractionPowers.{product_one}
+use Rattle.grammar.specs.Tree.{Tree, tree, Node, literal, variable_n, variable_k, sum_of, product_of, power_of, factorial_of, binomial_of, Parts, no_parts, part}
+use Rattle.term_classes.specs.TreePolynomial.{constant_of, tree_polynomial}
+use Rattle.term_classes.specs.TreeValue.{tree_value, node_value, product_value, part_power, factorial_power, at_whole, defined_power}
+use Rattle.term_classes.specs.Forms.{linear_form_of, limited_form, limited_exponent}
 use Rattle.term_classes.specs.Sought.{polynomial_sought, node_polynomial_sought, constant_sought}
 use Rattle.term_classes.specs.Walk.{with_scale, place_of, times_sought, form_or_refused, argument_sought, not_negative, with_factorial, base_or_refused, times_exponential, walk, walk_node, walk_parts}
-use Rattle.term_classes.proofs.SameValues.{◌≅◌, same, same_chain, same_turned, same_defined, same_whole_powers}
-use Rattle.term_classes.proofs.FractionPowers.{product_one}
 use Rattle.term_classes.proofs.PassingPolynomials.{node_belongs}
 use Rattle.term_classes.proofs.PolynomialValues.{node_has}
 use Rattle.term_classes.proofs.PolynomialParts.{power_value}

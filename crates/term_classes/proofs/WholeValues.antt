@@ -10,9 +10,9 @@ use Rattle.ring_solver.proofs.Read.{ring_z, reading_z}
 use Rattle.ring_laws.specs.WholeDomain.{abs_nought}
 use Rattle.ring_laws.proofs.Quotients.{abs_rem}
 use Rattle.hypergeometric.specs.Fraction.{Fraction, IsDefined, of_whole, undefined_value, whole_power}
-use Rattle.hypergeometric.specs.TreeValue.{whole_number_of, at_whole, defined_power}
 use Rattle.hypergeometric.proofs.FractionLaws.{one_not_zero}
-use Rattle.term_classes.proofs.SameValues.{◌≅◌}
+use Rattle.hypergeometric.proofs.SameValues.{◌≅◌}
+use Rattle.term_classes.specs.TreeValue.{whole_number_of, at_whole, defined_power}
 
 -- the whole number of a fraction that has the value of one
 whole_found : (f : Fraction) (z : ℤ) → f ≅ of_whole z → whole_number_of f ≡ Some z

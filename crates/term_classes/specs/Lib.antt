@@ -1,4 +1,6 @@
-pub mod Divisors
+pub mod NamesOfK
+pub mod TreePolynomial
+pub mod TreeValue
 pub mod Forms
 pub mod Sought
 pub mod Walk

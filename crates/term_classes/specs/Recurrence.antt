@@ -1,37 +1,13 @@
 -- The polynomials in n of a recurrence's trees, or the first refusal.
-use Rattle.std.specs.Prelude.{ℕ, ◌-◌, min, if◌then◌else◌, nat_eq, List, [], ◌∷◌, length, Option, Some, None}
+use Rattle.std.specs.Prelude.{◌-◌, if◌then◌else◌, nat_eq, List, [], ◌∷◌, length, Option, Some, None}
 use Rattle.ring_laws.specs.Meaning.{Meaning, items, listed}
-use Rattle.hypergeometric.specs.Tree.{Tree, tree, Node, literal, variable_n, variable_k, sum_of, product_of, power_of, factorial_of, binomial_of, Parts, no_parts, part}
 use Rattle.steps.specs.Steps.{gives, refuses, within_limit, ◌then◌}
 use Rattle.steps.specs.TermFaults.{improper, TermSteps}
 use Rattle.steps.specs.declared.limits.LimitName.TheVariants.{Order}
+use Rattle.grammar.specs.Tree.{Tree}
 use Rattle.term_classes.specs.Sought.{polynomial_sought}
 use Rattle.term_classes.specs.Walk.{place_of}
-
--- the lesser of two places, where there are any
-abbrev pub least_place : Option ℕ → Option ℕ → Option ℕ
-least_place None b = b
-least_place (Some a) None = Some a
-least_place (Some a) (Some b) = Some (min a b)
-
--- the least place of a name k
-abbrev mutual
-  pub place_of_k : Tree → Option ℕ
-  place_of_k (tree at node) = node_place_of_k at node
-
-  pub node_place_of_k : ℕ → Node → Option ℕ
-  node_place_of_k at (literal c) = None
-  node_place_of_k at variable_n = None
-  node_place_of_k at variable_k = Some at
-  node_place_of_k at (sum_of parts) = parts_place_of_k parts
-  node_place_of_k at (product_of parts) = parts_place_of_k parts
-  node_place_of_k at (power_of base e) = least_place (place_of_k base) (place_of_k e)
-  node_place_of_k at (factorial_of t) = place_of_k t
-  node_place_of_k at (binomial_of l m) = least_place (place_of_k l) (place_of_k m)
-
-  pub parts_place_of_k : Parts → Option ℕ
-  parts_place_of_k no_parts = None
-  parts_place_of_k (part turned t parts) = least_place (place_of_k t) (parts_place_of_k parts)
+use Rattle.term_classes.specs.NamesOfK.{place_of_k}
 
 -- the polynomial in n that a polynomial without k is
 abbrev pub in_n_alone : List Meaning → Meaning

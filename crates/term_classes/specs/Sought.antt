@@ -2,17 +2,18 @@
 -- before its base. The first that has none, or passes the limit of a constant exponent, decides.
 use Rattle.std.specs.Prelude.{ℕ, ◌*◌, Bool, true, false, ◌&&◌, ◌||◌, if◌then◌else◌, ℤ, pos, negsuc, unsigned_abs, List, [], ◌∷◌, Option, Some, None}
 use Rattle.ring_laws.specs.Meaning.{Meaning, items}
-use Rattle.hypergeometric.specs.Fraction.{Fraction, of_whole, fraction_negative, fraction_product}
-use Rattle.hypergeometric.specs.Tree.{Tree, tree, Node, literal, variable_n, variable_k, sum_of, product_of, power_of, factorial_of, binomial_of, Parts, no_parts, part}
-use Rattle.hypergeometric.specs.TreePolynomial.{in_n_and_k, poly_n, poly_k, poly_power, constant_in_k, constant_of}
 use Rattle.poly_laws.specs.Powers.{power_in, nonzero_magnitude}
+use Rattle.poly_laws.specs.TwoVariables.{in_n_and_k, poly_n, poly_k, poly_power, constant_in_k}
 use Rattle.steps.specs.Operations.{of_polynomial, of_fraction}
 use Rattle.steps.specs.Found.{in_front, where_some, made_of}
 use Rattle.steps.specs.Steps.{gives, makes, within_limit, ◌then◌}
 use Rattle.steps.specs.TermFaults.{TermSteps}
 use Rattle.steps.specs.declared.limits.LimitName.TheVariants.{Exponent}
-use Rattle.term_classes.specs.Divisors.{lowest_terms, raised_fraction, size_of_top, size_of_bottom}
-use Rattle.term_classes.specs.Forms.{is_zero}
+use Rattle.hypergeometric.specs.Fraction.{Fraction, of_whole, fraction_negative, fraction_product}
+use Rattle.hypergeometric.specs.Divisors.{lowest_terms, raised_fraction, size_of_top, size_of_bottom}
+use Rattle.hypergeometric.specs.PrimitiveForm.{is_zero}
+use Rattle.grammar.specs.Tree.{Tree, tree, Node, literal, variable_n, variable_k, sum_of, product_of, power_of, factorial_of, binomial_of, Parts, no_parts, part}
+use Rattle.term_classes.specs.TreePolynomial.{constant_of}
 
 abbrev pub sum_of_polynomials : List Meaning → Meaning
 sum_of_polynomials [] = in_n_and_k.nought

@@ -1,22 +1,26 @@
 -- The class of a tree: the proper term that it stands for, or the first refusal of a walk over it (A=B 4.4). The walk takes a tree to a
 -- whole power other than 0 and multiplies what it has gathered by it, so that a term with a negative power is divided by.
-use Rattle.std.specs.Prelude.{ℕ, suc, ◌+◌, ◌*◌, ◌-◌, min, true, if◌then◌else◌, nat_eq, ℤ, pos, negsuc, ◌*ℤ◌, neg_ℤ, unsigned_abs, int_lt, List, [], ◌∷◌, Option, Some, None}
+use Rattle.std.specs.Prelude.{ℕ, suc, ◌+◌, ◌*◌, true, if◌then◌else◌, ℤ, pos, negsuc, ◌*ℤ◌, neg_ℤ, unsigned_abs, int_lt, List, Option, Some, None}
 use Rattle.ring_laws.specs.Meaning.{Meaning, items}
+use Rattle.poly_laws.specs.TwoVariables.{in_n_and_k, poly_power, constant_in_k}
+use Rattle.steps.specs.Operations.{of_number, of_polynomial, of_fraction}
+use Rattle.steps.specs.Steps.{gives, makes, refuses, within_limit, ◌then◌}
+use Rattle.steps.specs.TermFaults.{improper, TermSteps}
+use Rattle.steps.specs.declared.limits.LimitName.TheVariants.{Factors, Exponent}
 use Rattle.hypergeometric.specs.Fraction.{Fraction, of_whole, fraction_product}
 use Rattle.hypergeometric.specs.LinearForm.{LinearForm, Factor}
 use Rattle.hypergeometric.specs.ProperTerm.{ProperTerm}
 use Rattle.hypergeometric.specs.TermFacts.{total_power}
 use Rattle.hypergeometric.specs.PlainTerm.{plain_term}
-use Rattle.hypergeometric.specs.Tree.{Tree, tree, Node, sum_of, product_of, power_of, factorial_of, binomial_of, Parts, no_parts, part}
-use Rattle.hypergeometric.specs.TreePolynomial.{in_n_and_k, poly_power, constant_in_k, constant_of}
-use Rattle.hypergeometric.specs.TreeValue.{part_power}
-use Rattle.lin_form.specs.FactorLists as lists
-use Rattle.steps.specs.Operations.{of_number, of_polynomial, of_fraction}
-use Rattle.steps.specs.Steps.{gives, makes, refuses, within_limit, ◌then◌}
-use Rattle.steps.specs.TermFaults.{improper, TermSteps}
-use Rattle.steps.specs.declared.limits.LimitName.TheVariants.{Factors, Exponent}
-use Rattle.term_classes.specs.Divisors.{lowest_terms, raised_fraction, size_of_top, size_of_bottom}
-use Rattle.term_classes.specs.Forms.{is_zero, linear_form_of, is_negative_constant, form_difference, difference_size, content_of_form, primitive_form, limited_form, limited_exponent}
+use Rattle.hypergeometric.specs.FactorLists as lists
+use Rattle.hypergeometric.specs.Divisors.{lowest_terms, raised_fraction, size_of_top, size_of_bottom}
+use Rattle.hypergeometric.specs.PrimitiveForm.{is_zero, is_negative_constant, content_of_form, primitive_form}
+use Rattle.hypergeometric.specs.Forms.{form_difference, difference_size}
+use Rattle.hypergeometric.specs.FactorLists.{in_both, without}
+use Rattle.grammar.specs.Tree.{Tree, tree, Node, sum_of, product_of, power_of, factorial_of, binomial_of, Parts, no_parts, part}
+use Rattle.term_classes.specs.TreePolynomial.{constant_of}
+use Rattle.term_classes.specs.TreeValue.{part_power}
+use Rattle.term_classes.specs.Forms.{linear_form_of, limited_form, limited_exponent}
 use Rattle.term_classes.specs.Sought.{polynomial_sought, node_polynomial_sought, constant_sought, size_raised}
 
 -- the term 1
@@ -140,18 +144,6 @@ abbrev mutual
   pub walk_parts : Parts → ℤ → ProperTerm → TermSteps ProperTerm
   walk_parts no_parts w f = gives f
   walk_parts (part turned t parts) w f = walk t (part_power turned w) f then (λ g. walk_parts parts w g)
-
--- the forms of the first list that stand in the second too, each with the smaller of its two powers
-abbrev pub in_both : List Factor → List Factor → List Factor
-in_both [] ys = []
-in_both (x ∷ xs) ys = if nat_eq (lists.power_of x.form ys) 0 then in_both xs ys
-    else (lists.factor_with x.form (min x.power (lists.power_of x.form ys)) ∷ in_both xs ys)
-
--- each form with its power less that in the second list, and without those whose power is then 0
-abbrev pub without : List Factor → List Factor → List Factor
-without [] ys = []
-without (x ∷ xs) ys = if nat_eq (x.power - lists.power_of x.form ys) 0 then without xs ys
-    else (lists.factor_with x.form (x.power - lists.power_of x.form ys) ∷ without xs ys)
 
 -- Factorials that stand above and below are cancelled, and guarded: the term is defined only where their arguments aren't negative.
 abbrev pub cancelled : ProperTerm → ProperTerm

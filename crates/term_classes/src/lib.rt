@@ -1,18 +1,20 @@
 //! The class of a tree: the proper term that it stands for, or why it stands for none.
 //!
 //! `specs/` has the definitions, `proofs/` the laws that the crates above cite. The functions here do nothing: the contract of each is a law.
-//! Read `specs/Sought.antt` (the polynomial and the constant of a tree), then `specs/Walk.antt`
+//! Read `specs/TreePolynomial.antt` and `specs/TreeValue.antt` (what a tree is worth),
+//! `specs/Refusals.antt`, `specs/Steps.antt`, `specs/Sought.antt` (the polynomial and the constant of a tree), then `specs/Walk.antt`
 //! (the class), and `specs/ClassValues.antt` (what it means that a term has the value of a tree).
 #![tactic(auto)]
 
 ghost use Rattle.std.specs.Prelude.{◌≡◌, Ok};
 ghost use Rattle.hypergeometric.specs.ProperTerm.{ProperTerm};
-ghost use Rattle.hypergeometric.specs.Tree.{Tree};
-ghost use Rattle.hypergeometric.specs.TreeValue.{term_value};
+ghost use Rattle.grammar.specs.Tree.{Tree};
+ghost use Rattle.term_classes.specs.TreeValue.{term_value};
 ghost use Rattle.term_classes.specs.Walk.{class_of, class_of_quotient};
 ghost use Rattle.hypergeometric.specs.TermFacts.{IsPlain};
 ghost use Rattle.term_classes.specs.ClassBounds.{IsTermInBounds};
-ghost use Rattle.term_classes.specs.ClassValues.{HasValue, quotient_value};
+ghost use Rattle.hypergeometric.specs.TermValue.{HasValue};
+ghost use Rattle.term_classes.specs.ClassValues.{quotient_value};
 
 /// The class of a tree, where it has one, is defined exactly where the tree's own value is, and has that value there, at all whole n
 /// and k (A=B 4.4). The like for the quotient of two trees.

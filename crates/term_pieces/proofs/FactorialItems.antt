@@ -9,9 +9,9 @@ use Rattle.ring_solver.proofs.Read.{ring_z, reading_z}
 use Rattle.hypergeometric.specs.Point.{Point, later_n, later_k}
 use Rattle.hypergeometric.specs.Fraction.{Fraction, IsDefined, ◌≈◌, natural_power}
 use Rattle.hypergeometric.specs.LinearForm.{LinearForm, Factor, form_value, forms_value, factorial_value, inverse_factorial_value}
-use Rattle.hypergeometric.proofs.Definedness.{natural_power_defined}
+use Rattle.hypergeometric.proofs.Definedness.{natural_power_defined, factorial_value_defined, inverse_factorial_value_defined}
 use Rattle.hypergeometric.proofs.FractionLaws.{equal_to_itself}
-use Rattle.term_classes.proofs.FractionPowers.{one_product}
+use Rattle.hypergeometric.proofs.FractionPowers.{one_product}
 use Rattle.term_pieces.specs.Products.{form_plus, at_later_n}
 use Rattle.term_pieces.specs.ItemForms.{negative_part, positive_part, least_of, greatest_of, above_least, below_greatest, rising_where, falling_where}
 use Rattle.term_pieces.proofs.Factorials.{factorial_times, inverse_factorial_times}
@@ -30,13 +30,11 @@ earlier_k f p = shift (f.n_slope *ℤ p.n) f.k_slope f.offset p.k
     shift : (a s o k : ℤ) → (a +ℤ s *ℤ (k -ℤ pos 1)) +ℤ o ≡ ((a +ℤ s *ℤ k) +ℤ o) -ℤ s
     shift a s o k = ring_z (a ∷ s ∷ o ∷ k ∷ []) (search reading_z depth 40 fits 20000) refl
 
-
 pub next_k : (f : LinearForm) (p : Point) → form_value f (later_k p (pos 1)) ≡ form_value f p +ℤ f.k_slope
 next_k f p = shift (f.n_slope *ℤ p.n) f.k_slope f.offset p.k
   where
     shift : (a s o k : ℤ) → (a +ℤ s *ℤ (k +ℤ pos 1)) +ℤ o ≡ ((a +ℤ s *ℤ k) +ℤ o) +ℤ s
     shift a s o k = ring_z (a ∷ s ∷ o ∷ k ∷ []) (search reading_z depth 40 fits 20000) refl
-
 
 -- a factorial at b + m, and one over a factorial at y with y + m at v
 factorial_multiple : (b : ℤ) (m : ℕ) (y : ℤ) (e : ℕ) → pos 0 ≤ℤ b → y ≡ b +ℤ pos m
@@ -51,13 +49,6 @@ inverse_multiple y m v e is =
     subst (λ z. natural_power (inverse_factorial_value y) e ≈ times_common (pow (rising (y +ℤ pos 1) m) e) (natural_power (inverse_factorial_value z) e))
     (sym is) (times_powers (inverse_factorial_value y) (inverse_factorial_value (y +ℤ pos m)) (rising (y +ℤ pos 1) m) e (inverse_factorial_times y m))
 
-factorial_defined : (b : ℤ) → pos 0 ≤ℤ b → IsDefined (factorial_value b)
-factorial_defined (pos a) h e = omega (arith, ints, e)
-factorial_defined (negsuc a) h e = omega (arith, ints, h)
-
-inverse_defined : (v : ℤ) → IsDefined (inverse_factorial_value v)
-inverse_defined v = (inverse_factorial_times v 0).left_defined
-
 abbrev above_at : ℕ → LinearForm → Point → Fraction
 above_at e f p = natural_power (factorial_value (form_value f p)) e
 
@@ -70,7 +61,7 @@ module _ (p : Point) (e : ℕ) where
       → above_at e (form_plus b (neg_ℤ (negative_part t))) p ≈ times_common (forms_value (falling_where t b e) (later_k p (negsuc 0))) (above_at e b p)
   above_here b (pos m) is h =
       let same : form_value (form_plus b (pos 0)) p ≡ form_value b p = plus_value b (pos 0) p ∙ omega (arith, ints) in
-      unchanged (natural_power_defined (factorial_value (form_value b p)) e (factorial_defined (form_value b p) h))
+      unchanged (natural_power_defined (factorial_value (form_value b p)) e (factorial_value_defined (form_value b p) h))
       (ap (λ z. natural_power (factorial_value z) e) same)
   above_here b (negsuc m) is h =
       let inner : (form_value b (later_k p (negsuc 0)) -ℤ pos (suc m)) +ℤ pos 1 ≡ form_value b p +ℤ pos 1 = omega (arith, ints, earlier_k b p, is) in
@@ -89,7 +80,7 @@ module _ (p : Point) (e : ℕ) where
   above_next b (negsuc m) is h =
       let same : form_value (form_plus b (pos (suc m))) (later_k p (pos 1)) ≡ form_value b p =
       plus_value b (pos (suc m)) (later_k p (pos 1)) ∙ omega (arith, ints, next_k b p, is) in
-      unchanged (natural_power_defined (factorial_value (form_value b p)) e (factorial_defined (form_value b p) h))
+      unchanged (natural_power_defined (factorial_value (form_value b p)) e (factorial_value_defined (form_value b p) h))
       (ap (λ z. natural_power (factorial_value z) e) same)
 
   -- the carrier's factorial below, at k
@@ -103,7 +94,7 @@ module _ (p : Point) (e : ℕ) where
       (sym (above_value v m e (later_k p (negsuc 0)) ∙ ap (λ z. pow (rising (z +ℤ pos 1) m) e) earlier)) (inverse_multiple y m (form_value v p) e there)
   below_here v (negsuc m) is =
       let same : form_value (form_plus v (pos 0)) p ≡ form_value v p = plus_value v (pos 0) p ∙ omega (arith, ints) in
-      unchanged (natural_power_defined (inverse_factorial_value (form_value v p)) e (inverse_defined (form_value v p)))
+      unchanged (natural_power_defined (inverse_factorial_value (form_value v p)) e (inverse_factorial_value_defined (form_value v p)))
       (ap (λ z. natural_power (inverse_factorial_value z) e) same)
 
   below_next : (v : LinearForm) (t : ℤ) → v.k_slope ≡ t
@@ -111,7 +102,7 @@ module _ (p : Point) (e : ℕ) where
   below_next v (pos m) is =
       let same : form_value (form_plus v (neg_ℤ (pos m))) (later_k p (pos 1)) ≡ form_value v p =
       plus_value v (neg_ℤ (pos m)) (later_k p (pos 1)) ∙ omega (arith, ints, next_k v p, is) in
-      unchanged (natural_power_defined (inverse_factorial_value (form_value v p)) e (inverse_defined (form_value v p)))
+      unchanged (natural_power_defined (inverse_factorial_value (form_value v p)) e (inverse_factorial_value_defined (form_value v p)))
       (ap (λ z. natural_power (inverse_factorial_value z) e) same)
   below_next v (negsuc m) is =
       let y = form_value (form_plus v (pos 0)) (later_k p (pos 1)) in

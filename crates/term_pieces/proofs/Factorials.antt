@@ -6,7 +6,7 @@ use Rattle.ring_solver.specs.Ranges.{over, rising}
 use Rattle.ring_solver.proofs.Read.{ring_z, reading_z}
 use Rattle.hypergeometric.specs.Fraction.{◌≈◌, of_whole, fraction_product}
 use Rattle.hypergeometric.specs.LinearForm.{factorial, factorial_value, inverse_factorial_value}
-use Rattle.term_classes.proofs.SameValues.{times_zero, zero_times}
+use Rattle.hypergeometric.proofs.SameValues.{times_zero, zero_times}
 
 -- no factorial is 0
 factorial_some : (a : ℕ) → 1 ≤ factorial a

@@ -4,9 +4,9 @@ use Rattle.std.specs.List.{AllByRecursion}
 use Rattle.std.specs.Ordering.{is_lt}
 use Rattle.hypergeometric.specs.LinearForm.{LinearForm, Factor}
 use Rattle.hypergeometric.specs.FormOrder.{IsBefore, IsSorted}
-use Rattle.lin_form.specs.FactorLists.{same_form, factor_with}
-use Rattle.lin_form.proofs.Lookups.{same_form_found}
-use Rattle.lin_form.proofs.SortedLists.{form_cmp, comes_before, all_after}
+use Rattle.hypergeometric.specs.FactorLists.{same_form, factor_with}
+use Rattle.hypergeometric.proofs.Lookups.{same_form_found}
+use Rattle.hypergeometric.proofs.SortedForms.{form_cmp, comes_before, all_after}
 use Rattle.term_pieces.proofs.ProductValues.{not_same}
 use Rattle.term_pieces.proofs.OneList.{order_of_forms}
 

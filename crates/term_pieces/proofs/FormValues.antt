@@ -9,7 +9,7 @@ use Rattle.ring_solver.proofs.Read.{ring_z, reading_z}
 use Rattle.ring_solver.proofs.Sums.{rising_first}
 use Rattle.hypergeometric.specs.Point.{Point, values, later_n, later_k}
 use Rattle.hypergeometric.specs.LinearForm.{LinearForm, Factor, form_value, forms_value}
-use Rattle.lin_form.specs.FactorLists.{factor_with}
+use Rattle.hypergeometric.specs.FactorLists.{factor_with}
 use Rattle.term_pieces.specs.Products.{form_plus, at_later_n, at_later_k, forms_above, forms_below}
 
 pub plus_value : (f : LinearForm) (c : ℤ) (p : Point) → form_value (form_plus f c) p ≡ form_value f p +ℤ c
@@ -24,13 +24,11 @@ later_n_value f j p = shift f.n_slope (f.k_slope *ℤ p.k) f.offset p.n j
     shift : (s b o n j : ℤ) → (s *ℤ n +ℤ b) +ℤ (o +ℤ s *ℤ j) ≡ (s *ℤ (n +ℤ j) +ℤ b) +ℤ o
     shift s b o n j = ring_z (s ∷ b ∷ o ∷ n ∷ j ∷ []) (search reading_z depth 40 fits 20000) refl
 
-
 pub later_k_value : (f : LinearForm) (j : ℤ) (p : Point) → form_value (at_later_k f j) p ≡ form_value f (later_k p j)
 later_k_value f j p = shift (f.n_slope *ℤ p.n) f.k_slope f.offset p.k j
   where
     shift : (a s o k j : ℤ) → (a +ℤ s *ℤ k) +ℤ (o +ℤ s *ℤ j) ≡ (a +ℤ s *ℤ (k +ℤ j)) +ℤ o
     shift a s o k j = ring_z (a ∷ s ∷ o ∷ k ∷ j ∷ []) (search reading_z depth 40 fits 20000) refl
-
 
 -- the value of lists that are joined
 pub joined_value : (xs ys : List Factor) (p : Point) → forms_value (xs ++ ys) p ≡ forms_value xs p *ℤ forms_value ys p

@@ -1,7 +1,7 @@
 -- Pieces that are known from elsewhere: those of the binomial coefficient at the orders 0 and 1, and of 1/(k (n + 1)) at the order 1.
 use Rattle.std.specs.Prelude.{◌≡◌, pos, negsuc, [], ◌∷◌, refl}
 use Rattle.hypergeometric.specs.ProperTerm.{ProperTerm}
-use Rattle.term_classes.specs.Forms.{with_numbers}
+use Rattle.hypergeometric.specs.Forms.{form_with}
 use Rattle.term_pieces.specs.Products.{power_among, contents_of}
 use Rattle.term_pieces.specs.Pieces.{top_forms, q_forms, r_forms, top_number, carrier_of}
 use Rattle.term_pieces.proofs.KnownTerms.{once, term_with}
@@ -18,7 +18,7 @@ known_quotient : (q_forms binomial 1 ≡ once (pos 1) (negsuc 0) (pos 1) ∷ [])
 known_quotient = (refl, refl)
 
 -- the primitive form of n - k + 1 is k - n - 1, with the content -1
-known_primitive : (power_among (with_numbers (negsuc 0) (pos 1) (negsuc 0)) (q_forms binomial 1) ≡ 1) × (contents_of (q_forms binomial 1) ≡ negsuc 0)
+known_primitive : (power_among (form_with (negsuc 0) (pos 1) (negsuc 0)) (q_forms binomial 1) ≡ 1) × (contents_of (q_forms binomial 1) ≡ negsuc 0)
 unfolding lib.IntN.pow lib.IntN.one
 known_primitive = (refl, refl)
 

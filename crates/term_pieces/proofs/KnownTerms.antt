@@ -4,14 +4,14 @@ use Rattle.poly_laws.specs.Values.{level}
 use Rattle.hypergeometric.specs.Fraction.{Fraction, of_whole}
 use Rattle.hypergeometric.specs.LinearForm.{Factor, FactorList}
 use Rattle.hypergeometric.specs.ProperTerm.{ProperTerm}
-use Rattle.lin_form.specs.FactorLists.{factor_with}
-use Rattle.term_classes.specs.Forms.{with_numbers}
+use Rattle.hypergeometric.specs.FactorLists.{factor_with}
+use Rattle.hypergeometric.specs.Forms.{form_with}
 use Rattle.term_pieces.specs.Products.{IsProductOf}
 use Rattle.term_pieces.specs.Pieces.{top_forms, q_forms, r_forms, top_number, carrier_of}
 use Rattle.term_pieces.proofs.SomePieces.{is_product}
 
 abbrev pub once : ℤ → ℤ → ℤ → Factor
-once n_slope k_slope offset = factor_with (with_numbers n_slope k_slope offset) 1
+once n_slope k_slope offset = factor_with (form_with n_slope k_slope offset) 1
 
 -- k and a number
 abbrev k_and : ℤ → Factor

@@ -6,11 +6,11 @@ use Rattle.hypergeometric.specs.Point.{Point, values, later_n, later_k}
 use Rattle.hypergeometric.specs.Fraction.{Fraction, ◌≈◌, fraction_product, natural_power}
 use Rattle.hypergeometric.specs.LinearForm.{LinearForm, Factor, form_value, forms_value, factorial_value, inverse_factorial_value, product_over}
 use Rattle.hypergeometric.specs.ProperTerm.{NoneNegative, NoneZero}
-use Rattle.lin_form.specs.FactorLists.{same_form, factor_with, with_factor}
-use Rattle.lin_form.proofs.Lookups.{same_form_found}
-use Rattle.term_classes.proofs.FractionPowers.{product_assoc, product_one, power_of_sum}
-use Rattle.term_classes.proofs.NonzeroPowers.{product_moved}
-use Rattle.term_classes.proofs.SameValues.{zero_times}
+use Rattle.hypergeometric.specs.FactorLists.{same_form, factor_with, with_factor}
+use Rattle.hypergeometric.proofs.Lookups.{same_form_found}
+use Rattle.hypergeometric.proofs.FractionPowers.{product_assoc, product_one, power_of_sum}
+use Rattle.hypergeometric.proofs.NonzeroPowers.{product_moved}
+use Rattle.hypergeometric.proofs.SameValues.{zero_times}
 use Rattle.term_pieces.specs.Products.{form_plus, at_later_n}
 use Rattle.term_pieces.specs.ItemForms.{negative_part, least_of, from_each, above_least, below_greatest, rising_up, falling_up, rising_down, falling_down, counted_but, cleared_over, later_over, kept_over}
 use Rattle.term_pieces.specs.Pieces.{carrier_up, carrier_down, gathered_forms}

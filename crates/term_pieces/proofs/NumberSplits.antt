@@ -12,13 +12,13 @@ use Rattle.poly_laws.proofs.ShiftLaws.{value_at_shift}
 use Rattle.hypergeometric.specs.Point.{Point, values, values_in_n, later_n, later_k}
 use Rattle.hypergeometric.specs.Fraction.{Fraction, IsDefined, ◌≈◌, of_whole, fraction_product, fraction_inverse, natural_power, whole_power}
 use Rattle.hypergeometric.specs.ProperTerm.{IsNonzero, ProperTerm, HasFractions, poly_value}
+use Rattle.hypergeometric.specs.Divisors.{lowest_terms}
 use Rattle.hypergeometric.proofs.Definedness.{natural_power_defined, whole_power_defined}
 use Rattle.hypergeometric.proofs.FractionLaws.{one_not_zero, product_not_zero, equal_to_itself, equal_turned, equal_chain, equal_products}
-use Rattle.term_classes.specs.Divisors.{lowest_terms}
-use Rattle.term_classes.proofs.FractionPowers.{fraction_same, one_product, product_one, product_comm, product_assoc}
-use Rattle.term_classes.proofs.LowestTerms.{lowest_same}
-use Rattle.term_classes.proofs.NonzeroPowers.{inverse_cancels, itself_then_inverse}
-use Rattle.term_classes.proofs.SameValues.{same_turned, same_equal, same_chain, same}
+use Rattle.hypergeometric.proofs.FractionPowers.{fraction_same, one_product, product_one, product_comm, product_assoc}
+use Rattle.hypergeometric.proofs.LowestTerms.{lowest_same}
+use Rattle.hypergeometric.proofs.NonzeroPowers.{inverse_cancels, itself_then_inverse}
+use Rattle.hypergeometric.proofs.SameValues.{same_turned, same_equal, same_chain, same}
 use Rattle.term_pieces.specs.Pieces.{poly_at_later_n, top_number}
 use Rattle.term_pieces.proofs.ProductValues.{pow_of_sum}
 use Rattle.term_pieces.proofs.Splits.{Splits, times_common}

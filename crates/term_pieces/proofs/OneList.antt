@@ -5,9 +5,9 @@ use Rattle.std.specs.List.{AllByRecursion}
 use Rattle.std.specs.Prelude.{ℤ, pos, zero, suc, negsuc, ◌-ℤ◌, ◌<ℤ◌, cond}
 use Rattle.hypergeometric.specs.LinearForm.{LinearForm, Factor, FactorList}
 use Rattle.hypergeometric.specs.FormOrder.{IsBefore, IsSorted}
-use Rattle.lin_form.specs.FactorLists.{same_form, power_of}
-use Rattle.lin_form.proofs.Lookups.{same_form_found, same_form_itself}
-use Rattle.lin_form.proofs.SortedLists.{all_after}
+use Rattle.hypergeometric.specs.FactorLists.{same_form, power_of}
+use Rattle.hypergeometric.proofs.Lookups.{same_form_found, same_form_itself}
+use Rattle.hypergeometric.proofs.SortedForms.{all_after}
 use Rattle.term_pieces.specs.Products.{IsProductOf}
 use Rattle.term_pieces.proofs.ProductValues.{not_among}
 

@@ -10,10 +10,10 @@ use Rattle.hypergeometric.specs.Point.{Point, later_k}
 use Rattle.hypergeometric.specs.Fraction.{Fraction, IsDefined, ◌≈◌, of_whole, fraction_product, fraction_inverse, natural_power}
 use Rattle.hypergeometric.specs.LinearForm.{Factor, form_value, forms_value, product_over}
 use Rattle.hypergeometric.specs.ProperTerm.{NoneZero}
+use Rattle.hypergeometric.specs.PrimitiveForm.{is_zero}
+use Rattle.hypergeometric.specs.FactorLists.{factor_with}
 use Rattle.hypergeometric.proofs.FractionLaws.{one_not_zero, equal_to_itself, product_not_zero}
-use Rattle.term_classes.proofs.FractionPowers.{one_product}
-use Rattle.term_classes.specs.Forms.{is_zero}
-use Rattle.lin_form.specs.FactorLists.{factor_with}
+use Rattle.hypergeometric.proofs.FractionPowers.{one_product}
 use Rattle.term_pieces.specs.Products.{at_later_k}
 use Rattle.term_pieces.specs.ItemForms.{from_each, at_next_k, with_k, without_k}
 use Rattle.term_pieces.proofs.FormValues.{later_k_value}

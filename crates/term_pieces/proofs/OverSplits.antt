@@ -8,8 +8,8 @@ use Rattle.hypergeometric.specs.Point.{Point, later_n, later_k}
 use Rattle.hypergeometric.specs.Fraction.{◌≈◌, natural_power}
 use Rattle.hypergeometric.specs.LinearForm.{Factor, form_value, forms_value}
 use Rattle.hypergeometric.specs.ProperTerm.{NoneZero}
-use Rattle.lin_form.specs.FactorLists.{factor_with}
-use Rattle.term_classes.specs.Forms.{is_zero}
+use Rattle.hypergeometric.specs.FactorLists.{factor_with}
+use Rattle.hypergeometric.specs.PrimitiveForm.{is_zero}
 use Rattle.term_pieces.specs.Products.{at_later_n}
 use Rattle.term_pieces.specs.ItemForms.{from_each, shifts_up_to, shifts_but, counted, counted_but, at_next_k, with_k, without_k}
 use Rattle.term_pieces.proofs.FormValues.{later_n_value}

@@ -4,8 +4,8 @@ use Rattle.std.specs.List.{AllByRecursion}
 use Rattle.std.specs.Prelude.{cond}
 use Rattle.hypergeometric.specs.LinearForm.{LinearForm, Factor}
 use Rattle.hypergeometric.specs.FormOrder.{IsSorted}
-use Rattle.lin_form.specs.FactorLists.{same_form, power_of}
-use Rattle.lin_form.proofs.Lookups.{same_form_found, same_form_itself}
+use Rattle.hypergeometric.specs.FactorLists.{same_form, power_of}
+use Rattle.hypergeometric.proofs.Lookups.{same_form_found, same_form_itself}
 use Rattle.term_pieces.proofs.OneList.{AllSome}
 use Rattle.term_pieces.proofs.FormPlaces.{Places, place_of, placed, put, all_put, sorted_put}
 

@@ -9,11 +9,11 @@ use Rattle.ring_solver.proofs.Read.{ring_z, reading_z}
 use Rattle.hypergeometric.specs.Point.{Point, values}
 use Rattle.hypergeometric.specs.LinearForm.{LinearForm, Factor, FactorList, form_value, forms_value, factor_list_value}
 use Rattle.hypergeometric.specs.FormOrder.{IsBefore, IsSorted}
-use Rattle.lin_form.specs.FactorLists.{same_form, power_of}
-use Rattle.lin_form.specs.Forms.{multiple}
-use Rattle.lin_form.proofs.Lookups.{same_form_found, same_form_itself}
-use Rattle.term_classes.specs.Forms.{content_of_form, primitive_form}
-use Rattle.term_classes.proofs.OnlyLowest.{content_multiple}
+use Rattle.hypergeometric.specs.FactorLists.{same_form, power_of}
+use Rattle.hypergeometric.specs.Forms.{multiple}
+use Rattle.hypergeometric.specs.PrimitiveForm.{content_of_form, primitive_form}
+use Rattle.hypergeometric.proofs.Lookups.{same_form_found, same_form_itself}
+use Rattle.hypergeometric.proofs.OnlyLowest.{content_multiple}
 use Rattle.term_pieces.specs.Products.{power_among, contents_of, IsProductOf}
 use Rattle.term_pieces.proofs.FormValues.{pow_of_product}
 

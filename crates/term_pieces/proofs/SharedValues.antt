@@ -8,7 +8,7 @@ use Rattle.hypergeometric.specs.Point.{Point, later_n, later_k}
 use Rattle.hypergeometric.specs.Fraction.{Fraction, ◌≈◌, of_whole, fraction_product, whole_power}
 use Rattle.hypergeometric.specs.LinearForm.{Factor, forms_value, factor_list_value, factorial_value, inverse_factorial_value, product_over}
 use Rattle.hypergeometric.specs.ProperTerm.{ProperTerm, HasFractions, IsDefinedAt, NoneNegative, proper_value, poly_value}
-use Rattle.term_classes.proofs.FractionPowers.{fraction_same, one_product}
+use Rattle.hypergeometric.proofs.FractionPowers.{fraction_same, one_product}
 use Rattle.term_pieces.specs.ItemForms.{from_each, above_least, below_greatest, rising_up, falling_up, rising_down, falling_down, counted_but, cleared_over, later_over, kept_over}
 use Rattle.term_pieces.specs.Pieces.{Pieces, ArePiecesOf, poly_at_later_n, top_number, top_forms, q_forms, r_forms, carrier_of, carrier_up, carrier_down, top_at}
 use Rattle.term_pieces.specs.PieceValues.{ShareValue}

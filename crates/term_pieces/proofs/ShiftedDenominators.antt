@@ -7,9 +7,9 @@ use Rattle.std.specs.Prelude.{ℤ, pos, ◌+ℤ◌, ◌*ℤ◌, cond, nat_eq}
 use Rattle.hypergeometric.specs.Point.{Point, later_n}
 use Rattle.hypergeometric.specs.Fraction.{Fraction, ◌≈◌, of_whole, fraction_product, natural_power}
 use Rattle.hypergeometric.specs.LinearForm.{Factor, form_value, forms_value}
+use Rattle.hypergeometric.specs.FactorLists.{factor_with}
 use Rattle.hypergeometric.proofs.FractionLaws.{one_not_zero, equal_to_itself}
-use Rattle.term_classes.proofs.FractionPowers.{one_product, product_one, product_assoc}
-use Rattle.lin_form.specs.FactorLists.{factor_with}
+use Rattle.hypergeometric.proofs.FractionPowers.{one_product, product_one, product_assoc}
 use Rattle.term_pieces.specs.Products.{at_later_n}
 use Rattle.term_pieces.specs.ItemForms.{shifts_up_to, shifts_but}
 use Rattle.term_pieces.proofs.FormValues.{later_n_value, joined_value}

@@ -3,9 +3,9 @@ use Rattle.std.proofs.Common.{◌≡◌, ◌≢◌, ℕ, zero, suc, ◌<◌, Boo
 use Rattle.std.specs.Prelude.{ℤ, ◌+◌, ◌*ℤ◌, cond, map, length}
 use Rattle.hypergeometric.specs.LinearForm.{LinearForm, Factor, FactorList}
 use Rattle.hypergeometric.specs.ProperTerm.{ProperTerm}
-use Rattle.lin_form.specs.FactorLists.{same_form}
-use Rattle.lin_form.proofs.Lookups.{same_form_found}
-use Rattle.term_classes.specs.Forms.{primitive_form}
+use Rattle.hypergeometric.specs.FactorLists.{same_form}
+use Rattle.hypergeometric.specs.PrimitiveForm.{primitive_form}
+use Rattle.hypergeometric.proofs.Lookups.{same_form_found}
 use Rattle.term_pieces.specs.Products.{power_among, contents_of, IsProductOf}
 use Rattle.term_pieces.specs.Pieces.{Top, Pieces, top_in, ArePiecesOf, top_number, top_forms, q_forms, r_forms, poly_at_later_n, carrier_of}
 use Rattle.term_pieces.proofs.PowerLists.{powers_listed, IsAmong, listed_some, listed_sorted, listed_power}

@@ -4,7 +4,7 @@ use Rattle.std.proofs.Common.{◌≡◌, ℕ, ◌≤◌, sym, subst}
 use Rattle.std.specs.Prelude.{ℤ, pos, ◌*ℤ◌}
 use Rattle.hypergeometric.specs.Fraction.{Fraction, ◌≈◌, of_whole, fraction_product}
 use Rattle.hypergeometric.proofs.FractionLaws.{one_not_zero, equal_to_itself, equal_products}
-use Rattle.term_classes.proofs.FractionPowers.{products_exchange, one_product}
+use Rattle.hypergeometric.proofs.FractionPowers.{products_exchange, one_product}
 
 -- x times the value h
 abbrev pub times_common : ℤ → Fraction → Fraction

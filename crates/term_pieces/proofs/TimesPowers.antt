@@ -4,8 +4,8 @@ use Rattle.std.proofs.Math.IntN.{pow, pow-succ'}
 use Rattle.std.specs.Prelude.{ℤ}
 use Rattle.hypergeometric.specs.Fraction.{Fraction, ◌≈◌, of_whole, fraction_product, natural_power}
 use Rattle.hypergeometric.proofs.Definedness.{natural_power_defined}
-use Rattle.term_classes.proofs.FractionPowers.{power_of_product}
-use Rattle.term_classes.proofs.SameValues.{same_equal, same_defined_values, same_natural_powers}
+use Rattle.hypergeometric.proofs.FractionPowers.{power_of_product}
+use Rattle.hypergeometric.proofs.SameValues.{same_equal, same_defined_values, same_natural_powers}
 use Rattle.term_pieces.proofs.Splits.{times_common}
 
 pub equal_powers : {f g : Fraction} (e : ℕ) → f ≈ g → natural_power f e ≈ natural_power g e

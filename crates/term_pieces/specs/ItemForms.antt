@@ -1,8 +1,8 @@
 -- The forms that one item of a term gives to the pieces at an order J: a factorial above or below, a denominator.
 use Rattle.std.specs.Prelude.{ℕ, zero, suc, cond, nat_eq, ℤ, pos, negsuc, ◌-ℤ◌, ◌*ℤ◌, unsigned_abs, List, [], ◌∷◌, ◌++◌, map}
 use Rattle.hypergeometric.specs.LinearForm.{LinearForm, Factor}
-use Rattle.lin_form.specs.FactorLists.{factor_with}
-use Rattle.term_classes.specs.Forms.{is_zero}
+use Rattle.hypergeometric.specs.FactorLists.{factor_with}
+use Rattle.hypergeometric.specs.PrimitiveForm.{is_zero}
 use Rattle.term_pieces.specs.Products.{form_plus, at_later_n, at_later_k, forms_above, forms_below}
 
 -- the part of a number below 0

@@ -8,8 +8,8 @@ use Rattle.poly_laws.specs.Shift.{poly_shift}
 use Rattle.poly_laws.specs.Values.{level}
 use Rattle.hypergeometric.specs.LinearForm.{Factor, FactorList}
 use Rattle.hypergeometric.specs.ProperTerm.{ProperTerm}
-use Rattle.lin_form.specs.FactorLists.{factor_with, with_factor}
-use Rattle.term_classes.specs.Divisors.{lowest_terms}
+use Rattle.hypergeometric.specs.FactorLists.{factor_with, with_factor}
+use Rattle.hypergeometric.specs.Divisors.{lowest_terms}
 use Rattle.term_pieces.specs.Products.{form_plus, IsProductOf}
 use Rattle.term_pieces.specs.ItemForms.{negative_part, positive_part, least_of, greatest_of, from_each, counted_but, above_least, below_greatest, rising_up, falling_up, rising_down, falling_down, cleared_over, later_over, kept_over}
 

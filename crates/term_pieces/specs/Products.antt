@@ -4,12 +4,13 @@ use Rattle.std.specs.List.{AllByRecursion}
 use lib.IntN.{pow}
 use Rattle.hypergeometric.specs.LinearForm.{LinearForm, Factor, FactorList}
 use Rattle.hypergeometric.specs.FormOrder.{IsSorted}
-use Rattle.lin_form.specs.FactorLists.{same_form, factor_with, power_of}
-use Rattle.term_classes.specs.Forms.{with_numbers, content_of_form, primitive_form}
+use Rattle.hypergeometric.specs.FactorLists.{same_form, factor_with, power_of}
+use Rattle.hypergeometric.specs.PrimitiveForm.{content_of_form, primitive_form}
+use Rattle.hypergeometric.specs.Forms.{form_with}
 
 -- a form with a number added to its offset
 abbrev pub form_plus : LinearForm → ℤ → LinearForm
-form_plus f c = with_numbers f.n_slope f.k_slope (f.offset +ℤ c)
+form_plus f c = form_with f.n_slope f.k_slope (f.offset +ℤ c)
 
 -- the form at n + j
 abbrev pub at_later_n : LinearForm → ℤ → LinearForm

@@ -1,17 +1,17 @@
 -- The code's tree of a derivation is the definition's.
 use Rattle.std.proofs.Common.{◌≡◌, ℕ, Bool, true, false, List, [], ◌∷◌, ◌++◌, ap, ◌∙◌}
-use Rattle.hypergeometric.specs.Tree as d
+use Rattle.grammar.specs.Tree as d
 use Rattle.grammar.specs.Token.{Placed, caret, bang, closing, comma, sum_sign, product_sign}
+use Rattle.grammar.specs.Grammar.{Sum, product_alone, minus_product, product_more, sum_place, Product, power_alone, power_more, product_place, Power, postfix_alone, raised, Postfix, atom_alone, factorial_at, Atom, number, the_n, the_k, bracket, choose, with_last, sum_text, product_text, power_text, postfix_text, atom_text, sum_tree, sum_parts, product_tree, product_parts, power_tree, postfix_tree, atom_tree}
 use Rattle.grammar.proofs.SmallLiterals.{AreSmall, past_sum, past_product, past_postfix}
 use Rattle.term_text.specs.Code.Literals.{whole_of}
-use Rattle.term_text.proofs.Literals.{value_is}
-use Rattle.grammar.specs.Grammar.{Sum, product_alone, minus_product, product_more, sum_place, Product, power_alone, power_more, product_place, Power, postfix_alone, raised, Postfix, atom_alone, factorial_at, Atom, number, the_n, the_k, bracket, choose, with_last, sum_text, product_text, power_text, postfix_text, atom_text, sum_tree, sum_parts, product_tree, product_parts, power_tree, postfix_tree, atom_tree}
 use Rattle.term_text.specs.declared.ast.Ast.{Ast}
 use Rattle.term_text.specs.declared.ast.Part.{Part}
 use Rattle.term_text.specs.declared.ast.Node.{Node}
 use Rattle.term_text.specs.View.{tree_of, node_of, part_of, parts_of}
 use Rattle.term_text.specs.Code.Steps.{part_at}
 use Rattle.term_text.specs.Code.Image.{sum_ast, sum_part_asts, product_ast, product_part_asts, power_ast, postfix_ast, atom_ast}
+use Rattle.term_text.proofs.Literals.{value_is}
 use Rattle.term_text.proofs.Views.{node_of-literal, node_of-n, node_of-k, node_of-sum, node_of-product, node_of-pow, node_of-factorial, node_of-binomial, tree_of-at, part_of-at}
 
 one_part : (turned : Bool) (a : Ast) (rest : List Part) → parts_of (record { turned = turned; ast = a } ∷ rest) ≡ d.part turned (tree_of a) (parts_of rest)

@@ -1,7 +1,7 @@
 -- The view of each node.
-use Rattle.ring_laws.specs.declared.wholes.Whole.{Whole}
 use Rattle.std.proofs.Common.{unsigned_abs, ◌≡◌, List}
-use Rattle.hypergeometric.specs.Tree as d
+use Rattle.ring_laws.specs.declared.wholes.Whole.{Whole}
+use Rattle.grammar.specs.Tree as d
 use Rattle.term_text.specs.declared.ast.Ast.{Ast}
 use Rattle.term_text.specs.declared.ast.Part.{Part}
 use Rattle.term_text.specs.declared.ast.Node.{the_lemmas}

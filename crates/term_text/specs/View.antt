@@ -1,6 +1,6 @@
 -- A tree of the code as a tree of the definition.
 use Rattle.std.specs.Prelude.{unsigned_abs, Bool, List, [], ◌∷◌, map}
-use Rattle.hypergeometric.specs.Tree as d
+use Rattle.grammar.specs.Tree as d
 use Rattle.term_text.specs.declared.ast.Ast.{Ast}
 use Rattle.term_text.specs.declared.ast.Node.{Node, fold-Node}
 use Rattle.term_text.specs.declared.ast.Node.TheOpen.{Node-F, Ast-F, Part-F}

@@ -1,19 +1,20 @@
 -- How far the row of a binomial coefficient has come, from what its first steps gave.
 use Rattle.std.proofs.Common.{◌≡◌, ℕ, ap, subst}
 use Rattle.std.specs.Prelude.{ℤ, neg_ℤ, Ok}
-use Rattle.hypergeometric.specs.LinearForm.{LinearForm}
-use Rattle.hypergeometric.specs.ProperTerm.{ProperTerm}
-use Rattle.hypergeometric.specs.Tree.{Tree}
-use Rattle.term_text.specs.View.{tree_of}
-use Rattle.term_text.specs.declared.ast.Ast.{Ast}
-use Rattle.term_text.proofs.Views.{tree_of-at}
-use Rattle.steps.proofs.Leading.{leads, leads_on}
 use Rattle.steps.specs.Leads.{Leads}
 use Rattle.steps.specs.Operations.{of_number}
 use Rattle.steps.specs.Steps.{makes, ◌then◌}
 use Rattle.steps.specs.TermFaults.{Improper, TermSteps}
-use Rattle.term_classes.specs.Forms.{form_difference, difference_size, limited_form}
+use Rattle.steps.proofs.Leading.{leads, leads_on}
+use Rattle.hypergeometric.specs.LinearForm.{LinearForm}
+use Rattle.hypergeometric.specs.ProperTerm.{ProperTerm}
+use Rattle.hypergeometric.specs.Forms.{form_difference, difference_size}
+use Rattle.grammar.specs.Tree.{Tree}
+use Rattle.term_classes.specs.Forms.{limited_form}
 use Rattle.term_classes.specs.Walk.{place_of, argument_sought, not_negative, with_factorial, times_binomial}
+use Rattle.term_text.specs.View.{tree_of}
+use Rattle.term_text.specs.declared.ast.Ast.{Ast}
+use Rattle.term_text.proofs.Views.{tree_of-at}
 use Rattle.term_walk.specs.WalkRows.{factorials_left, limits_left, difference_left}
 use Rattle.term_walk.proofs.RowLeads.{limited_leads}
 

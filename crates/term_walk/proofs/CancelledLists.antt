@@ -3,11 +3,10 @@ use Rattle.std.proofs.Common.{◌≡◌, ◌≢◌, ℕ, zero, suc, ◌+◌, ◌
 use Rattle.std.specs.List.{AllByRecursion}
 use Rattle.hypergeometric.specs.LinearForm.{LinearForm, Factor}
 use Rattle.hypergeometric.specs.FormOrder.{NoFormTwice, IsFactor, AreFactors}
-use Rattle.lin_form.specs.FactorLists.{same_form, factor_with, power_of, with_factor}
-use Rattle.lin_form.proofs.Lookups.{same_form_found}
+use Rattle.hypergeometric.specs.FactorLists.{same_form, factor_with, power_of, with_factor, in_both, without}
+use Rattle.hypergeometric.proofs.Lookups.{same_form_found}
+use Rattle.hypergeometric.proofs.SharedForms.{both_by, both_distinct, without_by, without_distinct}
 use Rattle.proper_term.proofs.ListItems.{item_first}
-use Rattle.term_classes.specs.Walk.{in_both, without}
-use Rattle.term_classes.proofs.SharedForms.{both_by, both_distinct, without_by, without_distinct}
 
 -- an item behind others in a list in which no form stands twice isn't one of those
 differs : (z x : Factor) (xs ys : List Factor) → AllByRecursion (λ y. y.form ≢ z.form) (xs ++ x ∷ ys) → x.form ≢ z.form

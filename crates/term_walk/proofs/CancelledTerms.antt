@@ -1,12 +1,13 @@
 -- The term of the code's lists after cancelling is the cancelled term, and what was gathered is in bounds.
 use Rattle.std.proofs.Common.{◌≡◌, ap, ◌∙◌}
 use Rattle.hypergeometric.specs.ProperTerm.{ProperTerm}
+use Rattle.hypergeometric.specs.FactorLists.{in_both, without}
 use Rattle.lin_form.specs.ListOf.{list_of}
 use Rattle.lin_form.specs.declared.factor_lists.FactorList.{FactorList}
+use Rattle.term_classes.specs.ClassBounds.{IsTermInBounds}
+use Rattle.term_classes.specs.Walk.{cancelled, with_lists}
 use Rattle.proper_term.specs.Fields.{term_with}
 use Rattle.proper_term.proofs.FieldPolynomials.{polynomial_kept}
-use Rattle.term_classes.specs.ClassBounds.{IsTermInBounds}
-use Rattle.term_classes.specs.Walk.{in_both, without, cancelled, with_lists}
 use Rattle.term_walk.specs.Views.{gathered_of}
 use Rattle.term_walk.specs.declared.gathered.Gathered.{Gathered}
 

@@ -1,25 +1,26 @@
 -- What the walk and the cancelling of the code say of the class of a tree, and of a quotient of two.
 use Rattle.std.proofs.Common.{◌≡◌, ℕ, sym, subst, IfOk}
 use Rattle.std.specs.Prelude.{pos, negsuc, Result, Ok, Err}
-use Rattle.hypergeometric.specs.ProperTerm.{ProperTerm}
-use Rattle.hypergeometric.specs.TermFacts.{IsPlain}
-use Rattle.hypergeometric.specs.Tree.{Tree}
-use Rattle.hypergeometric.specs.TreeValue.{term_value}
-use Rattle.hypergeometric.proofs.FractionLaws.{one_not_zero}
-use Rattle.proper_term.specs.TermOf.{term_of}
-use Rattle.proper_term.specs.declared.proper.Proper.{Proper}
-use Rattle.term_classes.specs.ClassBounds.{IsTermInBounds}
-use Rattle.term_classes.specs.ClassValues.{HasValue, quotient_value}
-use Rattle.steps.proofs.AnswerLaws.{first_cause, later_cause, later_answer}
-use Rattle.steps.proofs.StepLaws.{same_Ok}
 use Rattle.steps.specs.Answers.{HasCause, Answers}
 use Rattle.steps.specs.Steps.{gives, ◌then◌}
 use Rattle.steps.specs.TermFaults.{Improper, TermSteps, term_cause}
 use Rattle.steps.specs.declared.faults.TermFault.{TermFault}
+use Rattle.steps.proofs.AnswerLaws.{first_cause, later_cause, later_answer}
+use Rattle.steps.proofs.StepLaws.{same_Ok}
+use Rattle.hypergeometric.specs.ProperTerm.{ProperTerm}
+use Rattle.hypergeometric.specs.TermFacts.{IsPlain}
+use Rattle.hypergeometric.specs.TermValue.{HasValue}
+use Rattle.hypergeometric.proofs.FractionLaws.{one_not_zero}
+use Rattle.grammar.specs.Tree.{Tree}
+use Rattle.term_classes.specs.TreeValue.{term_value}
+use Rattle.term_classes.specs.ClassBounds.{IsTermInBounds}
+use Rattle.term_classes.specs.ClassValues.{quotient_value}
 use Rattle.term_classes.specs.Walk.{unit_term, walk, cancelled, class_of, class_of_quotient}
 use Rattle.term_classes.proofs.ClassesHaveValues.{class_has_the_value, class_of_quotient_has_the_value}
 use Rattle.term_classes.proofs.PlainClasses.{cancelled_plain, gathered_keeps, unit_gathered}
 use Rattle.term_classes.proofs.WalkValues.{minus_one_not_zero}
+use Rattle.proper_term.specs.TermOf.{term_of}
+use Rattle.proper_term.specs.declared.proper.Proper.{Proper}
 
 -- the walk begins with 1
 module _ (t : Tree) (nothing : ProperTerm) (unit : (gives {P = ℕ} {R = Improper} unit_term).outcome ≡ Ok nothing) where

@@ -2,15 +2,16 @@
 use Rattle.std.proofs.Common.{◌≡◌, ℕ, Bool, true, false, Option, Some, None, [], ◌∙◌, refl}
 use Rattle.std.specs.Prelude.{ℤ, ◌*ℤ◌, unsigned_abs, nat_le, if◌then◌else◌, Ok, Err}
 use Rattle.ring_laws.specs.Meaning.{Meaning}
-use Rattle.hypergeometric.specs.ProperTerm.{ProperTerm}
-use Rattle.hypergeometric.specs.Tree.{Tree, power_of}
-use Rattle.hypergeometric.specs.TreePolynomial.{constant_of}
-use Rattle.steps.proofs.StepLaws.{then_assoc}
 use Rattle.steps.specs.Limits.{greatest_count, capped}
 use Rattle.steps.specs.Steps.{limit, gives, within_limit, ◌then◌}
 use Rattle.steps.specs.TermFaults.{TermRefusal, TermSteps}
 use Rattle.steps.specs.declared.limits.LimitName.TheVariants.{Exponent}
-use Rattle.term_classes.specs.Forms.{is_zero, linear_form_of}
+use Rattle.steps.proofs.StepLaws.{then_assoc}
+use Rattle.hypergeometric.specs.ProperTerm.{ProperTerm}
+use Rattle.hypergeometric.specs.PrimitiveForm.{is_zero}
+use Rattle.grammar.specs.Tree.{Tree, power_of}
+use Rattle.term_classes.specs.TreePolynomial.{constant_of}
+use Rattle.term_classes.specs.Forms.{linear_form_of}
 use Rattle.term_classes.specs.Sought.{polynomial_sought}
 use Rattle.term_classes.specs.Walk.{walk, walk_node}
 use Rattle.term_walk.specs.WalkRows.{ExponentKind, zero_exponent, constant, varying, constant_kind, exponent_told, exponent_sought, exponential_left, power_left}

@@ -4,7 +4,7 @@ use Rattle.std.proofs.lemmas.Int.{ints}
 use Rattle.std.specs.Prelude.{ℤ, pos, negsuc, ◌<ℤ◌, unsigned_abs}
 use Rattle.hypergeometric.specs.LinearForm.{LinearForm}
 use Rattle.hypergeometric.specs.ProperTerm.{ProperTerm}
-use Rattle.lin_form.specs.FactorLists as lists
+use Rattle.hypergeometric.specs.FactorLists as lists
 use Rattle.term_classes.specs.Walk.{with_lists, few_factors, with_factorial}
 
 -- a factorial to a positive power stands above, and one to another power below

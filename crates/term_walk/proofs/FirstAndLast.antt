@@ -1,22 +1,22 @@
 -- The tests of the first and of the last polynomial of a recurrence, as the code makes them.
 use Rattle.std.proofs.Common.{◌≡◌, ℕ, zero, suc, ◌-◌, ◌<◌, ◌≤◌, List, [], ◌∷◌, length, map, get_or, refl, ap, arith, subst}
 use Rattle.std.specs.Prelude.{Ok}
+use Rattle.std.proofs.lemmas.List.{length-map}
 use Rattle.ring_laws.specs.Meaning.{Meaning}
 use Rattle.ring_laws.specs.declared.wholes.Whole.{Whole}
 use Rattle.ring_laws.specs.contracts.wholes.WholeRing.TheImpl.{ghosts}
-use Rattle.poly_generic.specs.declared.polys.Poly.{Poly}
-use Rattle.hypergeometric.specs.Tree.{Tree}
-use Rattle.term_text.specs.View.{tree_of}
-use Rattle.term_text.specs.declared.ast.Ast.{Ast}
-use Rattle.term_classes.specs.Recurrence.{coefficients_sought, not_zero_at, first_not_zero, last_not_zero, recurrence_sought}
-use Rattle.steps.proofs.AnswerLaws.{first_cause, later_cause, later_outcome}
-use Rattle.steps.proofs.StepLaws.{limit_kept}
 use Rattle.steps.specs.Answers.{HasCause}
 use Rattle.steps.specs.Steps.{gives, within_limit, ◌then◌}
 use Rattle.steps.specs.TermFaults.{TermSteps, term_cause}
 use Rattle.steps.specs.declared.faults.TermFault.{TermFault}
 use Rattle.steps.specs.declared.limits.LimitName.TheVariants.{Order}
-use Rattle.std.proofs.lemmas.List.{length-map}
+use Rattle.steps.proofs.AnswerLaws.{first_cause, later_cause, later_outcome}
+use Rattle.steps.proofs.StepLaws.{limit_kept}
+use Rattle.poly_generic.specs.declared.polys.Poly.{Poly}
+use Rattle.grammar.specs.Tree.{Tree}
+use Rattle.term_classes.specs.Recurrence.{coefficients_sought, not_zero_at, first_not_zero, last_not_zero, recurrence_sought}
+use Rattle.term_text.specs.View.{tree_of}
+use Rattle.term_text.specs.declared.ast.Ast.{Ast}
 use Rattle.term_walk.proofs.RecurrenceLaws.{polynomial_in_n}
 
 -- the tests of the first and of the last
@@ -60,7 +60,7 @@ first_kept_at (s ∷ ts) (q ∷ ps) t p h k e g o =
 -- the last tree and its polynomial
 pub last_cause_at : (ts : List Tree) (ps : List Meaning) (i : ℕ) (t : Tree) (p : Meaning) → length ts ≡ suc i → length ps ≡ suc i
     → t ≡ get_or ts i t → p ≡ get_or ps i p → (fault : TermFault) → HasCause (not_zero_at t p) (term_cause fault)
-        → HasCause (last_not_zero ts ps) (term_cause fault)
+    → HasCause (last_not_zero ts ps) (term_cause fault)
 last_cause_at [] ps i t p h k e g fault c = absurd (omega (arith, h))
 last_cause_at (s ∷ ts) [] i t p h k e g fault c = absurd (omega (arith, k))
 last_cause_at (s ∷ []) (q ∷ []) zero t p h k e g fault c =

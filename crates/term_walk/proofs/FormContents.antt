@@ -5,15 +5,12 @@ use Rattle.std.specs.Prelude.{ℤ, pos, unsigned_abs}
 use Rattle.ring_laws.specs.WholeDomain.{abs_nought}
 use Rattle.hypergeometric.specs.LinearForm.{LinearForm}
 use Rattle.hypergeometric.specs.FormOrder.{IsForm, IsPrimitive}
-use Rattle.lin_form.specs.Forms.{form_with, multiple}
-use Rattle.lin_form.proofs.PrimitiveForms.{IsNotZero, divisor_bound}
-use Rattle.term_classes.specs.Forms.{content_of_form, primitive_form}
-use Rattle.term_classes.proofs.FormValues.{divisor_of_form, content_size, content_divides}
-use Rattle.term_classes.proofs.OnlyLowest.{content_multiple}
-use Rattle.term_classes.proofs.PrimitiveDenominators.{primitive_is}
-
-pub some_number : (l : LinearForm) → l ≢ form_with (pos 0) (pos 0) (pos 0) → IsNotZero l
-some_number l some z = some (λ i. form_with (z.1 i) (z.0 i) (z.2 i))
+use Rattle.hypergeometric.specs.Forms.{form_with, multiple}
+use Rattle.hypergeometric.specs.PrimitiveForm.{content_of_form, primitive_form}
+use Rattle.hypergeometric.proofs.PrimitiveForms.{IsNotZero, divisor_bound, some_number}
+use Rattle.hypergeometric.proofs.Contents.{divisor_of_form, content_size, content_divides}
+use Rattle.hypergeometric.proofs.OnlyLowest.{content_multiple}
+use Rattle.hypergeometric.proofs.PrimitiveParts.{primitive_is}
 
 -- factor and primitive form are those of the definition
 pub record IsContent (l : LinearForm) (factor : ℤ) (f : LinearForm) : Type 0 where

@@ -2,15 +2,15 @@
 use Rattle.std.proofs.Common.{◌≡◌, ◌≤◌, ◌^◌, ap, ◌∙◌, arith}
 use Rattle.std.specs.Prelude.{ℤ, unsigned_abs, Ok}
 use Rattle.std.proofs.lemmas.Int.{ints}
-use Rattle.hypergeometric.specs.LinearForm.{LinearForm}
-use Rattle.hypergeometric.specs.FormOrder.{IsForm}
-use Rattle.lin_form.specs.Forms.{form_with}
 use Rattle.steps.specs.declared.limits.LimitName.{LimitName}
 use Rattle.steps.specs.declared.limits.LimitName.TheVariants.{Slope}
 use Rattle.steps.specs.Limits.{greatest_count}
 use Rattle.steps.specs.TermFaults.{Improper}
 use Rattle.steps.specs.Steps.{limited, within_limit, ◌then◌}
 use Rattle.steps.proofs.StepLaws.{then_gave, limit_gave, limit_kept, then_outcome}
+use Rattle.hypergeometric.specs.LinearForm.{LinearForm}
+use Rattle.hypergeometric.specs.FormOrder.{IsForm}
+use Rattle.hypergeometric.specs.Forms.{form_with}
 use Rattle.term_walk.specs.FormLimits.{form_within}
 
 -- the same form, and its numbers are small

@@ -5,17 +5,17 @@ use Rattle.std.proofs.lemmas.Nat.Gcd.{dvd_antisymm}
 use Rattle.std.proofs.Math.Nat.{one-dvd}
 use Rattle.std.specs.Prelude.{ℤ, pos, Ok}
 use Rattle.ring_laws.specs.Wholes.{is_zero}
-use Rattle.hypergeometric.specs.Fraction.{Fraction, of_whole, fraction_product}
-use Rattle.hypergeometric.specs.ProperTerm.{IsNonzero}
-use Rattle.hypergeometric.proofs.FractionLaws.{product_not_zero}
+use Rattle.steps.proofs.StepLaws.{same_Ok}
 use Rattle.poly_fraction.specs.Fractions.{RingFraction}
 use Rattle.poly_fraction.specs.LowestTerms.{IsLowest}
-use Rattle.proper_term.specs.Fields.{whole_fraction}
-use Rattle.term_classes.specs.Divisors.{lowest_terms, raised_fraction}
+use Rattle.hypergeometric.specs.Fraction.{Fraction, of_whole, fraction_product}
+use Rattle.hypergeometric.specs.ProperTerm.{IsNonzero}
+use Rattle.hypergeometric.specs.Divisors.{lowest_terms, raised_fraction}
+use Rattle.hypergeometric.proofs.FractionLaws.{product_not_zero}
+use Rattle.hypergeometric.proofs.LowestTerms.{raised_nonzero}
+use Rattle.hypergeometric.proofs.ReducedFractions.{HasLowestTerms, lowest_has_terms}
 use Rattle.term_classes.specs.Walk.{times_power}
-use Rattle.term_classes.proofs.LowestTerms.{raised_nonzero}
-use Rattle.term_classes.proofs.ReducedFractions.{HasLowestTerms, lowest_has_terms}
-use Rattle.steps.proofs.StepLaws.{same_Ok}
+use Rattle.proper_term.specs.Fields.{whole_fraction}
 
 pub has_terms : (f : RingFraction) → IsLowest f → HasLowestTerms (whole_fraction f)
 has_terms f h = record { positive = h.positive; coprime = h.coprime }

@@ -1,20 +1,20 @@
 -- The walk over a tree of the code, from what stands at its node.
 use Rattle.std.proofs.Common.{◌≡◌, ℕ, ◌≤◌, Bool, true, false, List, [], ◌∷◌, length, get_or, ap, sym, ◌∙◌, subst, refl, arith}
 use Rattle.std.specs.Prelude.{ℤ, if◌then◌else◌, Result}
+use Rattle.steps.specs.Answers.{Answers}
+use Rattle.steps.specs.Steps.{◌then◌}
+use Rattle.steps.specs.TermFaults.{TermSteps, term_cause}
+use Rattle.steps.specs.declared.faults.TermFault.{TermFault}
 use Rattle.hypergeometric.specs.ProperTerm.{ProperTerm}
-use Rattle.hypergeometric.specs.Tree as d
+use Rattle.grammar.specs.Tree as d
+use Rattle.term_classes.specs.Sought.{polynomial_sought}
+use Rattle.term_classes.specs.Walk.{place_of, times_sought, walk, walk_node, walk_parts}
 use Rattle.term_text.specs.View.{tree_of, node_of, part_of, parts_of}
 use Rattle.term_text.specs.declared.ast.Ast.{Ast}
 use Rattle.term_text.specs.declared.ast.Node.{Node}
 use Rattle.term_text.specs.declared.ast.Node.TheVariants.{Sum, Product}
 use Rattle.term_text.specs.declared.ast.Part.{Part}
 use Rattle.term_text.proofs.Views.{tree_of-at, part_of-at, node_of-sum, node_of-product}
-use Rattle.steps.specs.Answers.{Answers}
-use Rattle.steps.specs.Steps.{◌then◌}
-use Rattle.steps.specs.TermFaults.{TermSteps, term_cause}
-use Rattle.steps.specs.declared.faults.TermFault.{TermFault}
-use Rattle.term_classes.specs.Sought.{polynomial_sought}
-use Rattle.term_classes.specs.Walk.{place_of, times_sought, walk, walk_node, walk_parts}
 use Rattle.term_walk.specs.declared.gathered.Gathered.{Gathered}
 use Rattle.term_walk.specs.Views.{gathered_of}
 use Rattle.term_walk.specs.WalkRows.{is_one_turned}
@@ -81,6 +81,6 @@ plain_row at (d.part true t d.no_parts) w f h = cc
 
 pub plain_sum : (a : Ast) (ps : List Part) (w : ℤ) (f : ProperTerm) (result : Result Gathered TermFault) → a.node ≡ Sum ps
     → is_one_turned (parts_of ps) ≡ false → Answers term_cause gathered_of (sought (tree_of a) w f) result
-        → Answers term_cause gathered_of (walk (tree_of a) w f) result
+    → Answers term_cause gathered_of (walk (tree_of a) w f) result
 plain_sum a ps w f result e plain known =
     leaf_answer a (Sum ps) (d.sum_of (parts_of ps)) w f result e (node_of-sum ps) (plain_row a.at (parts_of ps) w f plain) known

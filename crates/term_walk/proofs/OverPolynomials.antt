@@ -2,17 +2,17 @@
 use Rattle.std.proofs.Common.{◌≡◌, ◌≢◌, ℕ, zero, suc, ◌≤◌, Some, None, ap, sym, ◌∙◌, subst, arith, Result}
 use Rattle.std.specs.Prelude.{pos, neg_ℤ, unsigned_abs, Ok, Err}
 use Rattle.ring_laws.specs.Meaning.{Meaning}
-use Rattle.hypergeometric.specs.LinearForm.{LinearForm}
-use Rattle.hypergeometric.specs.ProperTerm.{ProperTerm}
-use Rattle.lin_form.specs.Forms.{form_with}
-use Rattle.lin_form.specs.FactorLists as lists
-use Rattle.steps.proofs.AnswerLaws.{later_answer}
-use Rattle.steps.proofs.StepLaws.{then_gave, limit_gave}
 use Rattle.steps.specs.Answers.{Answers}
 use Rattle.steps.specs.Steps.{refuses, within_limit, ◌then◌}
 use Rattle.steps.specs.TermFaults.{improper, TermSteps, term_cause}
 use Rattle.steps.specs.declared.faults.TermFault.{TermFault}
 use Rattle.steps.specs.declared.limits.LimitName.TheVariants.{Slope, Offset}
+use Rattle.steps.proofs.AnswerLaws.{later_answer}
+use Rattle.steps.proofs.StepLaws.{then_gave, limit_gave}
+use Rattle.hypergeometric.specs.LinearForm.{LinearForm}
+use Rattle.hypergeometric.specs.ProperTerm.{ProperTerm}
+use Rattle.hypergeometric.specs.Forms.{form_with}
+use Rattle.lin_form.specs.FactorLists as lists
 use Rattle.term_classes.specs.Forms.{linear_form_of, limited_form}
 use Rattle.term_classes.specs.Walk.{with_denominator, times_polynomial}
 use Rattle.term_classes.proofs.VaryingForms.{IsVarying, varying_not_zero}

@@ -6,15 +6,15 @@ use Rattle.ring_laws.specs.Algebra.{Laws, Passing, same_passing}
 use Rattle.ring_laws.specs.Answer.{OnFault}
 use Rattle.ring_laws.specs.declared.faults.RingFault.{RingFault}
 use Rattle.poly_laws.specs.Values.{level}
-use Rattle.poly_laws.proofs.Equal.{level_laws}
-use Rattle.hypergeometric.specs.ProperTerm.{ProperTerm}
-use Rattle.hypergeometric.specs.TreePolynomial.{in_n_and_k, poly_power}
+use Rattle.poly_laws.specs.TwoVariables.{in_n_and_k, poly_power}
 use Rattle.poly_laws.specs.Powers.{power_in, nonzero_magnitude, IsBound}
-use Rattle.term_classes.specs.Sought.{size_raised}
-use Rattle.steps.proofs.AnswerLaws.{ring_cause, made_too_large}
+use Rattle.poly_laws.proofs.Equal.{level_laws}
 use Rattle.steps.specs.Answers.{HasCause}
 use Rattle.steps.specs.Operations.{of_polynomial}
 use Rattle.steps.specs.TermFaults.{fault_of, term_cause}
+use Rattle.steps.proofs.AnswerLaws.{ring_cause, made_too_large}
+use Rattle.hypergeometric.specs.ProperTerm.{ProperTerm}
+use Rattle.term_classes.specs.Sought.{size_raised}
 use Rattle.term_classes.specs.Walk.{with_poly, times_polynomial}
 use Rattle.term_classes.proofs.PassingPolynomials.{Belongs, power_belongs, product_not_nought, power_not_nought}
 use Rattle.term_classes.proofs.VaryingForms.{IsVarying, varying_not_nought}

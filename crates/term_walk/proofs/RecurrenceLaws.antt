@@ -4,17 +4,18 @@ use Rattle.std.specs.Prelude.{Ok, Err}
 use Rattle.ring_laws.specs.Meaning.{Meaning, number, listed}
 use Rattle.ring_laws.specs.declared.wholes.Whole.{Whole}
 use Rattle.ring_laws.specs.contracts.wholes.WholeRing.TheImpl.{ghosts}
-use Rattle.poly_generic.specs.declared.polys.Poly.{Poly}
-use Rattle.hypergeometric.specs.Tree.{Tree}
-use Rattle.term_text.specs.View.{tree_of}
-use Rattle.term_text.specs.declared.ast.Ast.{Ast}
-use Rattle.term_classes.specs.Recurrence.{place_of_k, polynomial_or_refused, coefficient_sought, coefficients_sought}
-use Rattle.steps.proofs.AnswerLaws.{first_cause, later_cause, later_outcome}
 use Rattle.steps.specs.Answers.{HasCause}
 use Rattle.steps.specs.Steps.{gives, refuses, ◌then◌}
 use Rattle.steps.specs.TermFaults.{improper, TermSteps, term_cause}
 use Rattle.steps.specs.declared.faults.TermFault.{TermFault}
+use Rattle.steps.proofs.AnswerLaws.{first_cause, later_cause, later_outcome}
+use Rattle.poly_generic.specs.declared.polys.Poly.{Poly}
+use Rattle.grammar.specs.Tree.{Tree}
+use Rattle.term_classes.specs.Recurrence.{polynomial_or_refused, coefficient_sought, coefficients_sought}
 use Rattle.term_classes.specs.Sought.{polynomial_sought}
+use Rattle.term_classes.specs.NamesOfK.{place_of_k}
+use Rattle.term_text.specs.View.{tree_of}
+use Rattle.term_text.specs.declared.ast.Ast.{Ast}
 
 -- what is done by the place of a k
 abbrev by_place : Tree → Option ℕ → TermSteps Meaning
@@ -84,7 +85,7 @@ module _ (trees : List Ast) (i : ℕ) (t : Ast) (below : i < length trees) (is :
         ∙ ap Ok (moved found p more);
     faults = λ fault h. leads.faults fault (subst (λ s. HasCause s (term_cause fault)) (sym here)
         (later_cause (coefficient_sought (tree_of t)) (λ p. coefficients_sought rest then (λ ps. gives (p ∷ ps))) (polynomial_in_n p)
-            (term_cause fault) e
+        (term_cause fault) e
         (first_cause (coefficients_sought rest) (λ ps. gives (polynomial_in_n p ∷ ps)) (term_cause fault) h)));
   }
 

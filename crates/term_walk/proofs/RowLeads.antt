@@ -2,18 +2,18 @@
 use Rattle.std.proofs.Common.{◌≡◌, ℕ, ◌≤◌, Option, subst}
 use Rattle.std.specs.Prelude.{ℤ, unsigned_abs, Ok}
 use Rattle.ring_laws.specs.Meaning.{Meaning}
-use Rattle.hypergeometric.specs.Fraction.{Fraction}
-use Rattle.hypergeometric.specs.LinearForm.{LinearForm}
-use Rattle.hypergeometric.specs.ProperTerm.{ProperTerm}
-use Rattle.hypergeometric.specs.Tree.{Tree}
-use Rattle.steps.proofs.AnswerLaws.{first_cause, later_cause}
-use Rattle.steps.proofs.Leading.{leads, leads_on}
 use Rattle.steps.specs.Answers.{HasCause}
 use Rattle.steps.specs.Leads.{Leads}
 use Rattle.steps.specs.Steps.{◌then◌}
 use Rattle.steps.specs.TermFaults.{TermSteps, term_cause}
 use Rattle.steps.specs.declared.faults.TermFault.{TermFault}
 use Rattle.steps.specs.declared.limits.LimitName.TheVariants.{Offset, Exponent}
+use Rattle.steps.proofs.AnswerLaws.{first_cause, later_cause}
+use Rattle.steps.proofs.Leading.{leads, leads_on}
+use Rattle.hypergeometric.specs.Fraction.{Fraction}
+use Rattle.hypergeometric.specs.LinearForm.{LinearForm}
+use Rattle.hypergeometric.specs.ProperTerm.{ProperTerm}
+use Rattle.grammar.specs.Tree.{Tree}
 use Rattle.term_classes.specs.Forms.{limited_form, limited_exponent}
 use Rattle.term_classes.specs.Sought.{polynomial_sought, constant_sought}
 use Rattle.term_classes.specs.Walk.{place_of, argument_sought, not_negative, base_or_refused, form_or_refused, with_factorial, times_exponential, times_sought}
@@ -73,10 +73,10 @@ constant_refused at base e form w f x h = first_cause (constant_sought base) (ba
 
 pub base_refused : (at : ℕ) (base e : Tree) (form : Option LinearForm) (w : ℤ) (f : ProperTerm) (b : Option Fraction) (x : TermFault)
     → (constant_sought base).outcome ≡ Ok b → HasCause (base_or_refused at b) (term_cause x)
-        → HasCause (exponential_left at base e form w f) (term_cause x)
+    → HasCause (exponential_left at base e form w f) (term_cause x)
 base_refused at base e form w f b x found h =
     later_cause (constant_sought base) (base_told at e form w f) b (term_cause x) found
-        (first_cause (base_or_refused at b) (form_told at e form w f) (term_cause x) h)
+    (first_cause (base_or_refused at b) (form_told at e form w f) (term_cause x) h)
 
 base_leads : (at : ℕ) (base e : Tree) (form : Option LinearForm) (w : ℤ) (f : ProperTerm) (b : Option Fraction) (b1 : Fraction)
     → HasBase at base b b1 → Leads (exponential_left at base e form w f) (form_told at e form w f b1)
@@ -87,7 +87,7 @@ pub form_refused : (at : ℕ) (base e : Tree) (form : Option LinearForm) (w : �
     → HasBase at base b b1 → HasCause (form_or_refused 5 e form) (term_cause x) → HasCause (exponential_left at base e form w f) (term_cause x)
 form_refused at base e form w f b b1 x h no_form =
     (base_leads at base e form w f b b1 h).cause (term_cause x) (first_cause (form_or_refused 5 e form) (limits_told at w f b1)
-        (term_cause x) no_form)
+    (term_cause x) no_form)
 
 form_leads : (at : ℕ) (base e : Tree) (form : Option LinearForm) (w : ℤ) (f : ProperTerm) (b : Option Fraction) (b1 : Fraction) (l : LinearForm)
     → HasBase at base b b1 → (form_or_refused 5 e form).outcome ≡ Ok l → Leads (exponential_left at base e form w f) (limits_told at w f b1 l)
@@ -99,7 +99,7 @@ pub exponent_refused : (at : ℕ) (base e : Tree) (form : Option LinearForm) (w 
     → HasCause (exponential_left at base e form w f) (term_cause x)
 exponent_refused at base e form w f b b1 l x h linear passed =
     (form_leads at base e form w f b b1 l h linear).cause (term_cause x)
-        (first_cause (limited_exponent l) (λ l1. times_exponential at b1 l w f) (term_cause x) passed)
+    (first_cause (limited_exponent l) (λ l1. times_exponential at b1 l w f) (term_cause x) passed)
 
 pub exponential_leads : (at : ℕ) (base e : Tree) (form : Option LinearForm) (w : ℤ) (f : ProperTerm) (b : Option Fraction) (b1 : Fraction)
     (l l2 : LinearForm) → HasBase at base b b1 → (form_or_refused 5 e form).outcome ≡ Ok l → (limited_exponent l).outcome ≡ Ok l2

@@ -6,14 +6,14 @@ use Rattle.std.specs.Int.{◌∣◌}
 use lib.IntN.{pow, one}
 use Rattle.ring_solver.proofs.Read.{ring_z, reading_z}
 use Rattle.hypergeometric.specs.Fraction.{Fraction, IsDefined, of_whole, fraction_product, fraction_negative}
+use Rattle.hypergeometric.specs.Divisors.{lowest_terms, raised_fraction}
 use Rattle.hypergeometric.proofs.FractionLaws.{product_not_zero}
-use Rattle.proper_term.proofs.WholePowers.{by_parity}
-use Rattle.term_classes.specs.Divisors.{lowest_terms, raised_fraction}
-use Rattle.term_classes.proofs.LowestTerms.{raised_nonzero}
-use Rattle.term_classes.proofs.OnlyLowest.{only_lowest}
-use Rattle.term_classes.proofs.ReducedFractions.{HasLowestTerms}
+use Rattle.hypergeometric.proofs.LowestTerms.{raised_nonzero}
+use Rattle.hypergeometric.proofs.OnlyLowest.{only_lowest}
+use Rattle.hypergeometric.proofs.ReducedFractions.{HasLowestTerms}
 use Rattle.term_classes.proofs.WalkRows.{whole_nonzero}
 use Rattle.term_classes.proofs.WalkValues.{minus_one_not_zero}
+use Rattle.proper_term.proofs.WholePowers.{by_parity}
 
 abbrev sign : ℤ → Fraction
 sign w = raised_fraction (of_whole (negsuc 0)) w

@@ -3,16 +3,16 @@ use Rattle.std.proofs.Common.{◌≡◌, ◌≢◌, ℕ, Bool, false, refl, ap, 
 use Rattle.std.proofs.lemmas.Bool.{ne_eqb}
 use Rattle.std.specs.Prelude.{ℤ, pos, ◌*ℤ◌, neg_ℤ, unsigned_abs, int_lt, if◌then◌else◌, Ok, Err}
 use Rattle.ring_laws.specs.WholeDomain.{abs_nought}
-use Rattle.hypergeometric.specs.Fraction.{Fraction, of_whole}
-use Rattle.hypergeometric.specs.LinearForm.{LinearForm}
-use Rattle.hypergeometric.specs.ProperTerm.{ProperTerm}
-use Rattle.lin_form.specs.FactorLists as lists
-use Rattle.steps.proofs.AnswerLaws.{first_cause, later_cause, later_outcome}
 use Rattle.steps.specs.Answers.{HasCause}
 use Rattle.steps.specs.Steps.{gives, refuses, ◌then◌}
 use Rattle.steps.specs.TermFaults.{improper, TermSteps, term_cause}
 use Rattle.steps.specs.declared.faults.TermFault.{TermFault}
-use Rattle.term_classes.specs.Forms.{is_zero, content_of_form, primitive_form}
+use Rattle.steps.proofs.AnswerLaws.{first_cause, later_cause, later_outcome}
+use Rattle.hypergeometric.specs.Fraction.{Fraction, of_whole}
+use Rattle.hypergeometric.specs.LinearForm.{LinearForm}
+use Rattle.hypergeometric.specs.ProperTerm.{ProperTerm}
+use Rattle.hypergeometric.specs.FactorLists as lists
+use Rattle.hypergeometric.specs.PrimitiveForm.{is_zero, content_of_form, primitive_form}
 use Rattle.term_classes.specs.Walk.{with_scale, with_n_base, with_k_base, with_lists, times_power, few_factors, with_denominator, times_number, times_exponential}
 
 -- a number other than 0 isn't refused
@@ -40,7 +40,7 @@ module _ (at : ℕ) (z w : ℤ) (f : ProperTerm) where
       → HasCause (times_number at z w f) (term_cause x)
   number_fault x n h =
       subst (λ t. HasCause t (term_cause x)) (sym (number_steps n)) (first_cause (times_power at f.scale (of_whole z) w)
-          (λ s. gives (with_scale s f)) (term_cause x) h)
+      (λ s. gives (with_scale s f)) (term_cause x) h)
 
 -- one over a form
 module _ (at : ℕ) (l : LinearForm) (w : ℕ) (f : ProperTerm) where
@@ -63,7 +63,7 @@ module _ (at : ℕ) (l : LinearForm) (w : ℕ) (f : ProperTerm) where
       → HasCause (with_denominator at l w f) (term_cause x)
   content_fault g x e h =
       later_cause few (λ g. over_content g then (λ s. gives (with_scale s g))) g (term_cause x) e
-          (first_cause (over_content g) (λ s. gives (with_scale s g)) (term_cause x) h)
+      (first_cause (over_content g) (λ s. gives (with_scale s g)) (term_cause x) h)
 
 -- a base to the power of a form
 module _ (at : ℕ) (base : Fraction) (e : LinearForm) (w : ℤ) (f : ProperTerm) where
@@ -99,4 +99,4 @@ module _ (at : ℕ) (base : Fraction) (e : LinearForm) (w : ℤ) (f : ProperTerm
   scale_fault b c x p q h =
       later_cause of_n (λ b. of_k then (last b)) b (term_cause x) p
       (later_cause of_k (last b) c (term_cause x) q (first_cause of_scale (λ s. gives (with_n_base b (with_k_base c (with_scale s f))))
-          (term_cause x) h))
+      (term_cause x) h))

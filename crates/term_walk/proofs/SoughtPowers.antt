@@ -2,12 +2,12 @@
 use Rattle.std.proofs.Common.{◌≡◌, ℕ, Option, Some, None, sym, subst, Result}
 use Rattle.std.specs.Prelude.{ℤ}
 use Rattle.ring_laws.specs.Meaning.{Meaning, items}
-use Rattle.hypergeometric.specs.ProperTerm.{ProperTerm}
-use Rattle.hypergeometric.specs.TreePolynomial.{constant_in_k}
+use Rattle.poly_laws.specs.TwoVariables.{constant_in_k}
 use Rattle.steps.specs.Answers.{Answers}
 use Rattle.steps.specs.Found.{found}
 use Rattle.steps.specs.TermFaults.{TermSteps, term_cause}
 use Rattle.steps.specs.declared.faults.TermFault.{TermFault}
+use Rattle.hypergeometric.specs.ProperTerm.{ProperTerm}
 use Rattle.term_classes.specs.Walk.{times_number, times_polynomial, times_sought}
 
 module _ {T R : Type 0} (meaning : T → Meaning) (view : R → ProperTerm) (result : Result R TermFault) (at : ℕ) (w : ℤ) (f : ProperTerm)

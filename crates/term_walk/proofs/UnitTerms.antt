@@ -2,12 +2,12 @@
 use Rattle.std.proofs.Common.{◌≡◌, ℕ, sym}
 use Rattle.std.specs.Prelude.{pos, Ok}
 use Rattle.ring_laws.specs.Meaning.{Meaning}
-use Rattle.hypergeometric.specs.Fraction.{Fraction, of_whole}
-use Rattle.hypergeometric.specs.ProperTerm.{ProperTerm}
-use Rattle.hypergeometric.specs.TreePolynomial.{in_n_and_k}
-use Rattle.steps.proofs.StepLaws.{same_Ok}
+use Rattle.poly_laws.specs.TwoVariables.{in_n_and_k}
 use Rattle.steps.specs.TermFaults.{Improper}
 use Rattle.steps.specs.Steps.{gives}
+use Rattle.steps.proofs.StepLaws.{same_Ok}
+use Rattle.hypergeometric.specs.Fraction.{Fraction, of_whole}
+use Rattle.hypergeometric.specs.ProperTerm.{ProperTerm}
 use Rattle.term_classes.specs.Walk.{unit_term, with_poly, with_scale, with_n_base, with_k_base}
 
 -- the term 1 has no factor, the polynomial 1, and the number 1 as scale and bases

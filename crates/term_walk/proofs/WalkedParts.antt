@@ -2,17 +2,17 @@
 use Rattle.std.proofs.Common.{◌≡◌, ℕ, ◌+◌, ◌≤◌, ◌<◌, List, length, get_or, drop, ap, sym, subst}
 use Rattle.std.proofs.lemmas.List.{drop_all}
 use Rattle.std.specs.Prelude.{ℤ, Ok}
-use Rattle.hypergeometric.specs.ProperTerm.{ProperTerm}
-use Rattle.hypergeometric.specs.TreeValue.{part_power}
-use Rattle.term_text.specs.View.{tree_of, parts_of}
-use Rattle.term_text.specs.declared.ast.Part.{Part}
-use Rattle.term_classes.specs.Walk.{walk, walk_parts}
-use Rattle.steps.proofs.AnswerLaws.{first_cause}
-use Rattle.steps.proofs.Leading.{leads}
 use Rattle.steps.specs.Answers.{HasCause}
 use Rattle.steps.specs.Leads.{Leads}
 use Rattle.steps.specs.TermFaults.{term_cause}
 use Rattle.steps.specs.declared.faults.TermFault.{TermFault}
+use Rattle.steps.proofs.AnswerLaws.{first_cause}
+use Rattle.steps.proofs.Leading.{leads}
+use Rattle.hypergeometric.specs.ProperTerm.{ProperTerm}
+use Rattle.term_classes.specs.TreeValue.{part_power}
+use Rattle.term_classes.specs.Walk.{walk, walk_parts}
+use Rattle.term_text.specs.View.{tree_of, parts_of}
+use Rattle.term_text.specs.declared.ast.Part.{Part}
 use Rattle.tree_polynomials.proofs.NextParts.{next_part}
 
 -- a fault in the next part

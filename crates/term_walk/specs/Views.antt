@@ -4,17 +4,17 @@ use Rattle.ring_laws.specs.Meaning.{number, listed}
 use Rattle.poly_fraction.specs.FractionOf.{fraction_of}
 use Rattle.hypergeometric.specs.LinearForm.{LinearForm}
 use Rattle.hypergeometric.specs.ProperTerm.{ProperTerm}
+use Rattle.hypergeometric.specs.Forms.{form_with}
 use Rattle.lin_form.specs.ListOf.{list_of}
 use Rattle.lin_form.proofs.Items.{each_of}
-use Rattle.proper_term.specs.Fields.{whole_fraction}
-use Rattle.term_classes.specs.Forms.{with_numbers}
 use Rattle.term_classes.specs.Walk.{with_lists}
+use Rattle.proper_term.specs.Fields.{whole_fraction}
 use Rattle.term_walk.specs.declared.factors.Factors.{Factors}
 use Rattle.term_walk.specs.declared.gathered.Gathered.{Gathered}
 use Rattle.term_walk.specs.declared.wide_forms.WideForm.{WideForm}
 
 abbrev pub wide_form_of : WideForm → LinearForm
-wide_form_of form = with_numbers form.n_slope.value form.k_slope.value form.offset.value
+wide_form_of form = form_with form.n_slope.value form.k_slope.value form.offset.value
 
 -- a term with other factorials and denominators
 abbrev pub with_factors : ProperTerm → Factors → ProperTerm

@@ -1,16 +1,18 @@
 -- The rows of a walk from some step on, for the calls that take them there, and what an exponent is to a walk.
 use Rattle.std.specs.Prelude.{ℕ, ℤ, ◌*ℤ◌, neg_ℤ, unsigned_abs, Bool, true, false, Option, Some, None, if◌then◌else◌}
 use Rattle.ring_laws.specs.Meaning.{Meaning}
-use Rattle.hypergeometric.specs.LinearForm.{LinearForm}
-use Rattle.hypergeometric.specs.ProperTerm.{ProperTerm}
-use Rattle.hypergeometric.specs.Tree.{Tree, Parts, no_parts, part}
-use Rattle.hypergeometric.specs.TreePolynomial.{constant_of}
 use Rattle.steps.specs.Found.{found}
 use Rattle.steps.specs.Operations.{of_number}
 use Rattle.steps.specs.Steps.{gives, makes, within_limit, ◌then◌}
 use Rattle.steps.specs.TermFaults.{TermSteps}
 use Rattle.steps.specs.declared.limits.LimitName.TheVariants as counts
-use Rattle.term_classes.specs.Forms.{is_zero, linear_form_of, form_difference, difference_size, limited_form, limited_exponent}
+use Rattle.hypergeometric.specs.LinearForm.{LinearForm}
+use Rattle.hypergeometric.specs.ProperTerm.{ProperTerm}
+use Rattle.hypergeometric.specs.PrimitiveForm.{is_zero}
+use Rattle.hypergeometric.specs.Forms.{form_difference, difference_size}
+use Rattle.grammar.specs.Tree.{Tree, Parts, no_parts, part}
+use Rattle.term_classes.specs.TreePolynomial.{constant_of}
+use Rattle.term_classes.specs.Forms.{linear_form_of, limited_form, limited_exponent}
 use Rattle.term_classes.specs.Sought.{polynomial_sought, constant_sought}
 use Rattle.term_classes.specs.Walk as w
 use Rattle.term_walk.specs.Views.{wide_form_of}

@@ -3,7 +3,7 @@
 ghost use Rattle.std.specs.Prelude.{◌≡◌, pos, IfOk, IfErr};
 ghost use Rattle.ring_laws.specs.declared.faults.RingFault.TheVariants.{Memory};
 ghost use Rattle.lin_form.specs.ListOf.{list_of};
-ghost use Rattle.term_classes.specs.Walk.{in_both, without};
+ghost use Rattle.hypergeometric.specs.FactorLists.{in_both, without};
 
 use lin_form::FactorList;
 use ring_laws::RingFault;

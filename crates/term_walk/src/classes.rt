@@ -2,12 +2,13 @@
 
 ghost use Rattle.std.specs.Prelude.{◌≡◌, IfOk};
 ghost use Rattle.hypergeometric.specs.TermFacts.{IsPlain};
-ghost use Rattle.hypergeometric.specs.TreeValue.{term_value};
+ghost use Rattle.term_classes.specs.TreeValue.{term_value};
 ghost use Rattle.lin_form.specs.ListOf.{list_of};
 ghost use Rattle.term_text.specs.View.{tree_of};
 ghost use Rattle.proper_term.specs.TermOf.{term_of};
 ghost use Rattle.term_classes.specs.ClassBounds.{IsTermInBounds};
-ghost use Rattle.term_classes.specs.ClassValues.{HasValue, quotient_value};
+ghost use Rattle.hypergeometric.specs.TermValue.{HasValue};
+ghost use Rattle.term_classes.specs.ClassValues.{quotient_value};
 ghost use Rattle.steps.specs.Answers.{Answers};
 ghost use Rattle.steps.specs.Steps.{gives};
 ghost use Rattle.steps.specs.TermFaults.{term_cause};

@@ -1,7 +1,7 @@
 //! Powers: what an exponent is, and powers whose exponent is no constant.
 
 ghost use Rattle.std.specs.Prelude.{◌≡◌, ◌≢◌, ◌≤◌, ◌*ℤ◌, pos, unsigned_abs};
-ghost use Rattle.hypergeometric.specs.TreePolynomial.{constant_of};
+ghost use Rattle.term_classes.specs.TreePolynomial.{constant_of};
 ghost use Rattle.term_text.specs.View.{tree_of};
 ghost use Rattle.steps.specs.Answers.{Answers};
 ghost use Rattle.steps.specs.Found.{found};

@@ -1,7 +1,7 @@
 //! Factorials and binomial coefficients.
 
 ghost use Rattle.std.specs.Prelude.{◌≢◌, ◌≤◌, ℕ, pos, unsigned_abs};
-ghost use Rattle.hypergeometric.specs.Tree.{tree, factorial_of};
+ghost use Rattle.grammar.specs.Tree.{tree, factorial_of};
 ghost use Rattle.lin_form.specs.Forms.{form_of};
 ghost use Rattle.term_text.specs.View.{tree_of};
 ghost use Rattle.term_classes.specs.Walk.{times_binomial, walk};

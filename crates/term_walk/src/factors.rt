@@ -3,7 +3,7 @@
 ghost use Rattle.std.specs.Prelude.{◌≡◌, ◌+◌, ◌≤◌, pos, [], IfOk, IfErr};
 ghost use Rattle.hypergeometric.specs.TermFacts.{total_power};
 ghost use Rattle.lin_form.specs.Forms.{form_of};
-ghost use Rattle.lin_form.specs.FactorLists.{with_factor};
+ghost use Rattle.hypergeometric.specs.FactorLists.{with_factor};
 ghost use Rattle.lin_form.specs.ListOf.{list_of};
 
 use lin_form::{FactorList, LinForm};
@@ -59,7 +59,7 @@ impl Factors {
     ghost use Rattle.hypergeometric.specs.ProperTerm.{ProperTerm};
     ghost use Rattle.hypergeometric.specs.TermFacts.{total_power};
     ghost use Rattle.lin_form.specs.Forms.{form_of};
-    ghost use Rattle.lin_form.specs.FactorLists.{with_factor};
+    ghost use Rattle.hypergeometric.specs.FactorLists.{with_factor};
     ghost use Rattle.lin_form.specs.ListOf.{list_of};
     ghost use Rattle.steps.specs.Answers.{Answers};
     ghost use Rattle.steps.specs.Steps.{gives};

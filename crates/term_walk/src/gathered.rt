@@ -1,7 +1,7 @@
 //! What a walk over a tree has gathered: the factors of a term before factorials are cancelled.
 
 ghost use Rattle.std.specs.Prelude.{◌≡◌, ◌≢◌};
-ghost use Rattle.hypergeometric.specs.TreePolynomial.{in_n_and_k};
+ghost use Rattle.poly_laws.specs.TwoVariables.{in_n_and_k};
 ghost use Rattle.poly_fraction.specs.FractionOf.{fraction_of};
 ghost use Rattle.poly_fraction.specs.LowestTerms.{IsLowest};
 ghost use Rattle.term_walk.specs.OneProof.{lowest_once};
@@ -33,8 +33,9 @@ pub(crate) struct Gathered {
 impl Gathered {
     ghost use Rattle.std.specs.Prelude.{◌≡◌, ◌≢◌, ◌≤◌, pos, negsuc, unsigned_abs};
     ghost use Rattle.hypergeometric.specs.Fraction.{of_whole, fraction_product};
-    ghost use Rattle.lin_form.specs.Forms.{form_of, form_with};
-    ghost use Rattle.term_classes.specs.Divisors.{lowest_terms, raised_fraction};
+    ghost use Rattle.lin_form.specs.Forms.{form_of};
+    ghost use Rattle.hypergeometric.specs.Forms.{form_with};
+    ghost use Rattle.hypergeometric.specs.Divisors.{lowest_terms, raised_fraction};
     ghost use Rattle.term_classes.specs.Walk.{with_scale, with_factorial, with_denominator};
     ghost use Rattle.steps.specs.Answers.{Answers};
     ghost use Rattle.steps.specs.TermFaults.{term_cause};

@@ -2,7 +2,7 @@
 
 ghost use Rattle.std.specs.Prelude.{◌≡◌, ◌≢◌, ◌≤◌, pos, neg_ℤ, unsigned_abs, None};
 ghost use Rattle.ring_laws.specs.Meaning.{items};
-ghost use Rattle.hypergeometric.specs.TreePolynomial.{constant_in_k};
+ghost use Rattle.poly_laws.specs.TwoVariables.{constant_in_k};
 ghost use Rattle.steps.specs.Answers.{Answers};
 ghost use Rattle.steps.specs.Found.{found};
 ghost use Rattle.steps.specs.Steps.{gives};

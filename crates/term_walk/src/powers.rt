@@ -1,7 +1,7 @@
 //! The powers that a walk takes trees to.
 
 ghost use Rattle.std.specs.Prelude.{◌≡◌, ◌≢◌, ◌≤◌, pos, unsigned_abs};
-ghost use Rattle.hypergeometric.specs.TreeValue.{part_power};
+ghost use Rattle.term_classes.specs.TreeValue.{part_power};
 
 // A power that a walk takes a tree to.
 #[derive(Clone, Copy, Drop)]

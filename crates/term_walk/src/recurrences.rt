@@ -9,12 +9,11 @@ ghost use Rattle.steps.specs.Answers.{Answers};
 ghost use Rattle.steps.specs.TermFaults.{term_cause};
 
 use poly_generic::{Zn, Znk};
-use proper_term::free_of_k;
 use ring_laws::{Ring, RingFault};
 use std::alloc::Global;
 use steps::{LimitName, TermFault, fault_at};
 use term_text::Ast;
-use tree_polynomials::polynomial_of_tree;
+use tree_polynomials::{free_of_k, polynomial_of_tree};
 
 // The greatest order of a recurrence.
 const MAX_ORDER: usize = 6;

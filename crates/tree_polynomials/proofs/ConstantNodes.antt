@@ -2,28 +2,28 @@
 use Rattle.std.proofs.Common.{◌≡◌, ℕ, ◌+◌, ◌<◌, ◌≤◌, refl, ap, sym, ◌∙◌, subst, List, [], ◌∷◌, ◌++◌, Bool, true, false, arith, length, get_or, drop, append-nil}
 use Rattle.std.proofs.lemmas.List.{drop_all}
 use Rattle.std.specs.Prelude.{Option, Some, None, Result, Ok}
-use Rattle.hypergeometric.specs.Fraction.{Fraction}
-use Rattle.hypergeometric.specs.Tree as d
-use Rattle.hypergeometric.specs.TreePolynomial.{constant_in_k}
 use Rattle.ring_laws.specs.Meaning.{items}
-use Rattle.term_text.specs.View.{tree_of, node_of, part_of, parts_of}
-use Rattle.term_text.specs.declared.ast.Ast.{Ast}
-use Rattle.term_text.specs.declared.ast.Part.{Part}
-use Rattle.term_text.proofs.Views.{tree_of-at, part_of-at}
-use Rattle.steps.proofs.AnswerLaws.{later_answer}
-use Rattle.steps.proofs.PartsSought.{Continues, part_first, part_done, part_none, part_fault}
+use Rattle.poly_laws.specs.TwoVariables.{constant_in_k}
 use Rattle.steps.specs.Answers.{HasCause, Answers}
 use Rattle.steps.specs.Steps.{gives, ◌then◌}
 use Rattle.steps.specs.TermFaults.{TermSteps, term_cause}
 use Rattle.steps.specs.declared.faults.TermFault.{TermFault}
+use Rattle.steps.proofs.AnswerLaws.{later_answer}
+use Rattle.steps.proofs.PartsSought.{Continues, part_first, part_done, part_none, part_fault}
+use Rattle.hypergeometric.specs.Fraction.{Fraction}
+use Rattle.grammar.specs.Tree as d
 use Rattle.term_classes.specs.Sought.{FractionFactor, whole_fraction, negative_of, polynomial_sought, node_polynomial_sought, constant_sought, node_constant_sought, constants_sought}
+use Rattle.term_text.specs.View.{tree_of, node_of, part_of, parts_of}
+use Rattle.term_text.specs.declared.ast.Ast.{Ast}
+use Rattle.term_text.specs.declared.ast.Part.{Part}
+use Rattle.term_text.proofs.Views.{tree_of-at, part_of-at}
 use Rattle.tree_polynomials.specs.ConstantCases.{negative_sought}
 use Rattle.tree_polynomials.proofs.NextParts.{next_part}
 
 -- where a tree has no polynomial, its node decides
 pub other_answer : {T : Type 0} (view : T → Option Fraction) (a : Ast) (node : d.Node) (s : TermSteps (Option Fraction)) (result : Result T TermFault)
     → node_of a.node ≡ node → node_constant_sought a.at node ≡ s → (polynomial_sought (tree_of a)).outcome ≡ Ok None
-        → Answers term_cause view s result
+    → Answers term_cause view s result
     → Answers term_cause view (constant_sought (tree_of a)) result
 other_answer view a node s result e same none h =
     let here : tree_of a ≡ d.tree a.at node = tree_of-at a ∙ ap (d.tree a.at) e in
@@ -44,7 +44,7 @@ only_part (q ∷ r ∷ ps) p turned some few is e = absurd (omega (arith, few))
 -- behind a minus
 pub negated_answer : {T : Type 0} (view : T → Option Fraction) (ps : List Part) (p : Part) (result : Result T TermFault)
     → parts_of ps ≡ d.part true (tree_of p.ast) d.no_parts → Answers term_cause view
-        (constant_sought (tree_of p.ast) then (λ f. gives (negative_of f))) result
+    (constant_sought (tree_of p.ast) then (λ f. gives (negative_of f))) result
     → Answers term_cause view (negative_sought (parts_of ps)) result
 negated_answer view ps p result one h = subst (λ ps. Answers term_cause view (negative_sought ps) result) (sym one) h
 

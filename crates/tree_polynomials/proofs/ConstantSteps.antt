@@ -3,19 +3,19 @@ use Rattle.std.proofs.Common.{◌≡◌, ℕ, zero, suc, refl, ap, sym, ◌∙�
 use Rattle.std.proofs.lemmas.Int.{ints}
 use Rattle.std.proofs.Math.Dec.{eqb-suc-zero}
 use Rattle.std.specs.Prelude.{ℤ, pos, negsuc, ◌<ℤ◌, ◌≢◌, unsigned_abs, if◌then◌else◌, Option, Some, None, Result, Ok, Err}
-use Rattle.hypergeometric.specs.Fraction.{Fraction}
-use Rattle.hypergeometric.specs.Tree.{Tree, sum_of, power_of, Parts, no_parts, part}
-use Rattle.hypergeometric.specs.TreePolynomial.{constant_of}
-use Rattle.proper_term.specs.Fields.{number_fraction}
 use Rattle.steps.specs.Found.{where_some}
-use Rattle.steps.proofs.StepLaws.{then_assoc}
 use Rattle.steps.specs.Operations.{of_fraction}
 use Rattle.steps.specs.Steps.{gives, makes, limited, within_limit, ◌then◌}
 use Rattle.steps.specs.TermFaults.{TermRefusal, TermSteps}
 use Rattle.steps.specs.declared.limits.LimitName.TheVariants.{Exponent}
-use Rattle.term_classes.specs.Divisors.{lowest_terms, raised_fraction, size_of_top, size_of_bottom}
-use Rattle.term_classes.specs.Forms.{is_zero}
+use Rattle.steps.proofs.StepLaws.{then_assoc}
+use Rattle.hypergeometric.specs.Fraction.{Fraction}
+use Rattle.hypergeometric.specs.Divisors.{lowest_terms, raised_fraction, size_of_top, size_of_bottom}
+use Rattle.hypergeometric.specs.PrimitiveForm.{is_zero}
+use Rattle.grammar.specs.Tree.{Tree, sum_of, power_of, Parts, no_parts, part}
+use Rattle.term_classes.specs.TreePolynomial.{constant_of}
 use Rattle.term_classes.specs.Sought.{polynomial_sought, node_constant_sought, power_made}
+use Rattle.proper_term.specs.Fields.{number_fraction}
 use Rattle.tree_polynomials.specs.ConstantCases.{limited_constant, exponent_sought, power_sought, negative_sought}
 
 zero_test : (z : ℤ) → z ≢ pos 0 → is_zero z ≡ false

@@ -2,12 +2,12 @@
 use Rattle.std.proofs.Common.{◌≡◌, ℕ, ◌∙◌, subst}
 use Rattle.std.specs.Prelude.{ℤ, Option, Some, None, Result, Ok, Err}
 use Rattle.ring_laws.specs.Meaning.{Meaning}
-use Rattle.hypergeometric.specs.TreePolynomial.{constant_of}
-use Rattle.steps.proofs.Leading.{leads, leads_on}
 use Rattle.steps.specs.Found.{where_some}
 use Rattle.steps.specs.Leads.{Leads}
 use Rattle.steps.specs.TermFaults.{TermSteps, term_cause}
 use Rattle.steps.specs.declared.faults.TermFault.{TermFault}
+use Rattle.steps.proofs.Leading.{leads, leads_on}
+use Rattle.term_classes.specs.TreePolynomial.{constant_of}
 use Rattle.tree_polynomials.specs.Exponents.{with_exponent, raised_to, ToExponent}
 
 -- what is said of the constant of a polynomial that was sought

@@ -7,18 +7,18 @@ use Rattle.std.specs.Prelude.{ℤ, pos, ◌*ℤ◌, unsigned_abs}
 use Rattle.ring_laws.specs.Answer.{OnFault}
 use Rattle.ring_laws.specs.Wholes.{number_of, whole_algebra}
 use Rattle.ring_laws.specs.declared.faults.RingFault.{RingFault}
-use Rattle.poly_fraction.specs.Fractions.{RingFraction, FractionProductInBounds}
-use Rattle.proper_term.specs.Fields.{whole_fraction}
-use Rattle.hypergeometric.specs.Fraction.{Fraction, of_whole, fraction_product}
-use Rattle.term_classes.specs.Divisors.{nonzero_size, size_of_top, size_of_bottom}
-use Rattle.term_classes.specs.Forms.{is_zero}
-use Rattle.term_classes.specs.Sought.{FractionFactor, divides_by_zero, factor_fraction, product_of_fractions, top_sizes, bottom_sizes}
-use Rattle.steps.proofs.AnswerLaws.{ring_cause, made_too_large}
 use Rattle.steps.specs.Answers.{HasCause}
 use Rattle.steps.specs.Operations.{Counterpart, IsInBounds, of_fraction}
 use Rattle.steps.specs.Steps.{makes}
 use Rattle.steps.specs.TermFaults.{fault_of, term_cause}
-use Rattle.term_classes.proofs.FractionPowers.{product_assoc, one_product}
+use Rattle.steps.proofs.AnswerLaws.{ring_cause, made_too_large}
+use Rattle.poly_fraction.specs.Fractions.{RingFraction, FractionProductInBounds}
+use Rattle.hypergeometric.specs.Fraction.{Fraction, of_whole, fraction_product}
+use Rattle.hypergeometric.specs.Divisors.{nonzero_size, size_of_top, size_of_bottom}
+use Rattle.hypergeometric.specs.PrimitiveForm.{is_zero}
+use Rattle.hypergeometric.proofs.FractionPowers.{product_assoc, one_product}
+use Rattle.term_classes.specs.Sought.{FractionFactor, divides_by_zero, factor_fraction, product_of_fractions, top_sizes, bottom_sizes}
+use Rattle.proper_term.specs.Fields.{whole_fraction}
 use Rattle.tree_polynomials.specs.Factors.{factor_of, factors_of}
 use Rattle.tree_polynomials.specs.declared.factors.Factor.{Factor}
 
@@ -47,7 +47,7 @@ product_size a b =
 pub product_fault : (at : ℕ) (f g : RingFraction) (fault : RingFault) → OnFault (¬ FractionProductInBounds whole_algebra f g) fault
     → HasCause (makes at (of_fraction (size_of_top (whole_fraction f) * size_of_top (whole_fraction g))
     (size_of_bottom (whole_fraction f) * size_of_bottom (whole_fraction g))) (fraction_product (whole_fraction f) (whole_fraction g)))
-        (term_cause (fault_of at fault))
+    (term_cause (fault_of at fault))
 product_fault at f g fault h =
     ring_cause (makes at counterpart product) at (¬ FractionProductInBounds whole_algebra f g) fault h
     (λ out. made_too_large at counterpart (λ small. out (record {

@@ -1,3 +1,4 @@
+pub mod LeastPlaces
 pub mod NextParts
 pub mod NumberPowers
 pub mod LowestFractions

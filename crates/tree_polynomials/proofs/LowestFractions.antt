@@ -4,9 +4,9 @@ use Rattle.std.specs.Prelude.{pos, ◌≢◌}
 use Rattle.ring_laws.specs.Wholes.{number_of, whole_algebra}
 use Rattle.poly_fraction.specs.Fractions.{RingFraction, AreSame}
 use Rattle.poly_fraction.specs.LowestTerms.{IsLowest}
+use Rattle.hypergeometric.specs.Divisors.{lowest_terms}
+use Rattle.hypergeometric.proofs.OnlyLowest.{only_lowest}
 use Rattle.proper_term.specs.Fields.{whole_fraction}
-use Rattle.term_classes.specs.Divisors.{lowest_terms}
-use Rattle.term_classes.proofs.OnlyLowest.{only_lowest}
 
 pub lowest_is : (f g : RingFraction) → number_of f.bottom ≢ pos 0 → AreSame whole_algebra.ops g f → IsLowest g
     → whole_fraction g ≡ lowest_terms (whole_fraction f)

@@ -1,7 +1,7 @@
 -- The parts that are left at an index begin with the part there.
 use Rattle.std.proofs.Common.{◌≡◌, ℕ, ◌+◌, ◌<◌, List, length, get_or, drop, ap, sym, ◌∙◌}
 use Rattle.std.proofs.lemmas.List.{drop_more}
-use Rattle.hypergeometric.specs.Tree as d
+use Rattle.grammar.specs.Tree as d
 use Rattle.term_text.specs.View.{tree_of, part_of, parts_of}
 use Rattle.term_text.specs.declared.ast.Part.{Part}
 use Rattle.term_text.proofs.Views.{part_of-at}

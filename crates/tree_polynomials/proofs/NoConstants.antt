@@ -1,7 +1,7 @@
 -- A polynomial with two coefficients or more is no constant.
 use Rattle.std.proofs.Common.{◌≡◌, ap, List, [], ◌∷◌, map, length, ◌≤◌, arith, None}
 use Rattle.ring_laws.specs.Meaning.{Meaning, listed, items}
-use Rattle.hypergeometric.specs.TreePolynomial.{constant_in_n, constant_in_k}
+use Rattle.poly_laws.specs.TwoVariables.{constant_in_n, constant_in_k}
 
 pub no_constant_in_n : {T : Type 0} (xs : List T) (f : T → Meaning) (m : Meaning) → 2 ≤ length xs → listed (map f xs) ≡ m
     → None ≡ constant_in_n (items m)

@@ -3,21 +3,21 @@ use Rattle.std.proofs.Common.{◌≡◌, ap, sym, ◌∙◌, subst, List}
 use Rattle.std.specs.Prelude.{pos, unsigned_abs, Option, Some, None, Result, Ok}
 use Rattle.ring_laws.specs.Meaning.{Meaning}
 use Rattle.ring_laws.specs.declared.wholes.Whole.{Whole}
-use Rattle.hypergeometric.specs.Tree as d
-use Rattle.hypergeometric.specs.TreePolynomial.{in_n_and_k, poly_n, poly_k}
-use Rattle.term_text.specs.declared.ast.Ast.{Ast}
-use Rattle.term_text.specs.declared.ast.Part.{Part}
-use Rattle.term_text.specs.declared.ast.Node.TheVariants.{Literal, N, K, Sum, Product, Pow}
-use Rattle.term_text.specs.View.{tree_of, node_of, parts_of}
-use Rattle.term_text.proofs.Views.{node_of-literal, node_of-n, node_of-k, node_of-sum, node_of-product, node_of-pow, tree_of-at}
-use Rattle.steps.proofs.AnswerLaws.{later_answer}
+use Rattle.poly_laws.specs.TwoVariables.{in_n_and_k, poly_n, poly_k}
 use Rattle.steps.specs.Answers.{Answers}
 use Rattle.steps.specs.Found.{made_of, found}
 use Rattle.steps.specs.Operations.{of_polynomial}
 use Rattle.steps.specs.Steps.{gives, ◌then◌}
 use Rattle.steps.specs.TermFaults.{TermSteps, term_cause}
 use Rattle.steps.specs.declared.faults.TermFault.{TermFault}
+use Rattle.steps.proofs.AnswerLaws.{later_answer}
+use Rattle.grammar.specs.Tree as d
 use Rattle.term_classes.specs.Sought.{sum_of_polynomials, product_of_polynomials, sizes_added, sizes_multiplied, raised_at, polynomial_sought, node_polynomial_sought, summands_sought, factors_sought}
+use Rattle.term_text.specs.declared.ast.Ast.{Ast}
+use Rattle.term_text.specs.declared.ast.Part.{Part}
+use Rattle.term_text.specs.declared.ast.Node.TheVariants.{Literal, N, K, Sum, Product, Pow}
+use Rattle.term_text.specs.View.{tree_of, node_of, parts_of}
+use Rattle.term_text.proofs.Views.{node_of-literal, node_of-n, node_of-k, node_of-sum, node_of-product, node_of-pow, tree_of-at}
 use Rattle.tree_polynomials.specs.Exponents.{raised_to}
 
 -- an answer of the same steps
@@ -75,7 +75,7 @@ product_answer result x a ps qs view given e h o k =
     (factors_sought (parts_of qs) then made_of a.at (λ ps. of_polynomial (sizes_multiplied ps)) product_of_polynomials)
     (product_sought a qs (e ∙ ap Product (sym h)))
     (later_answer term_cause (found view) (factors_sought (parts_of qs))
-        (made_of a.at (λ ps. of_polynomial (sizes_multiplied ps)) product_of_polynomials)
+    (made_of a.at (λ ps. of_polynomial (sizes_multiplied ps)) product_of_polynomials)
     (found given x) result o k)
 
 -- what was found, or that nothing was

@@ -7,26 +7,21 @@ use Rattle.std.specs.Prelude.{ℤ, pos, negsuc, ◌*ℤ◌, unsigned_abs}
 use Rattle.ring_laws.specs.Meaning.{number}
 use Rattle.ring_laws.specs.Algebra.{Passing}
 use Rattle.ring_laws.specs.Wholes.{number_of, whole_algebra}
-use Rattle.hypergeometric.proofs.FractionLaws.{one_not_zero, product_not_zero}
-use Rattle.poly_laws.specs.Powers.{power_in, nonzero_magnitude, IsBound}
 use Rattle.ring_laws.specs.Answer.{OnFault}
 use Rattle.ring_laws.specs.declared.faults.RingFault.{RingFault}
-use Rattle.term_classes.specs.Divisors.{nonzero_size}
-use Rattle.steps.proofs.AnswerLaws.{ring_cause, made_too_large}
+use Rattle.poly_laws.specs.Powers.{power_in, nonzero_magnitude, IsBound}
 use Rattle.steps.specs.Answers.{HasCause}
 use Rattle.steps.specs.Operations.{of_number}
 use Rattle.steps.specs.Steps.{makes}
 use Rattle.steps.specs.TermFaults.{fault_of, term_cause}
+use Rattle.steps.proofs.AnswerLaws.{ring_cause, made_too_large}
+use Rattle.hypergeometric.specs.Divisors.{nonzero_size}
+use Rattle.hypergeometric.proofs.FractionLaws.{pow_not_zero}
 
 pub power_number : (b : ℤ) (n : ℕ) → power_in whole_algebra.ops (number b) n ≡ number (pow b n)
 unfolding pow one
 power_number b zero = refl
 power_number b (suc n) = ap (λ m. number (b *ℤ number_of m)) (power_number b n) ∙ ap number (sym (pow-succ' b n))
-
-pub pow_not_zero : (z : ℤ) (n : ℕ) → z ≢ pos 0 → pow z n ≢ pos 0
-unfolding pow one
-pow_not_zero z zero h e = one_not_zero e
-pow_not_zero z (suc n) h e = product_not_zero z (pow z n) h (pow_not_zero z n h) (sym (pow-succ' z n) ∙ e)
 
 -- the size of what isn't 0 is its magnitude
 pub size_of_nonzero : (z : ℤ) → z ≢ pos 0 → nonzero_size z ≡ unsigned_abs z
@@ -82,7 +77,7 @@ size_bound z = record {
 pub power_fault : (at : ℕ) (p b : ℤ) (n : ℕ) (fault : RingFault)
     → OnFault ((bound : Passing whole_algebra) → IsBound whole_algebra bound (number p)
     → ¬ whole_algebra.ops.Fits (whole_algebra.ops.product bound.0 (power_in whole_algebra.ops
-        (nonzero_magnitude whole_algebra.ops (number b)) n))) fault
+    (nonzero_magnitude whole_algebra.ops (number b)) n))) fault
     → HasCause (makes at (of_number (nonzero_size p * nonzero_size (pow b n))) (p *ℤ pow b n)) (term_cause (fault_of at fault))
 power_fault at p b n fault h =
     ring_cause (makes at (of_number (nonzero_size p * nonzero_size (pow b n))) (p *ℤ pow b n)) at _ fault h

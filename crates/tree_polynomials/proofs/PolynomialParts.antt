@@ -3,15 +3,15 @@ use Rattle.std.proofs.Common.{◌≡◌, ℕ, ◌+◌, ◌<◌, ◌≤◌, Bool,
 use Rattle.std.proofs.lemmas.List.{map-append}
 use Rattle.std.specs.Prelude.{not, if◌then◌else◌, Option, Some, None, Ok}
 use Rattle.ring_laws.specs.Meaning.{Meaning}
-use Rattle.hypergeometric.specs.Tree.{Parts, part, no_parts}
-use Rattle.lin_form.proofs.ListProducts.{all_dropped}
-use Rattle.term_text.specs.declared.ast.Part.{Part}
-use Rattle.term_text.specs.View.{tree_of, parts_of}
-use Rattle.steps.proofs.PartsSought.{Continues, part_first, part_done, part_none, part_fault}
 use Rattle.steps.specs.Answers.{HasCause}
 use Rattle.steps.specs.TermFaults.{TermSteps, term_cause}
 use Rattle.steps.specs.declared.faults.TermFault.{TermFault}
+use Rattle.steps.proofs.PartsSought.{Continues, part_first, part_done, part_none, part_fault}
+use Rattle.lin_form.proofs.ListProducts.{all_dropped}
+use Rattle.grammar.specs.Tree.{Parts, part, no_parts}
 use Rattle.term_classes.specs.Sought.{polynomial_sought, summands_sought, factors_sought, signed_polynomial}
+use Rattle.term_text.specs.declared.ast.Part.{Part}
+use Rattle.term_text.specs.View.{tree_of, parts_of}
 use Rattle.tree_polynomials.proofs.NextParts.{next_part}
 
 -- the parts of a sum
@@ -36,7 +36,7 @@ module _ (ps : List Part) (i : ℕ) (p : Part) (done : List Meaning) (below : i 
       → HasCause (summands_sought (parts_of ps)) (term_cause x)
   summand_fault x k =
       part_fault (polynomial_sought (tree_of p.ast)) (signed_polynomial p.turned) sums_behind (summands_sought (parts_of ps)) done
-          (term_cause x) there k
+      (term_cause x) there k
 
 -- those of a product
 module _ (ps : List Part) (i : ℕ) (p : Part) (done : List Meaning) (below : i < length ps) (is : p ≡ get_or ps i p)

@@ -7,11 +7,11 @@ use Rattle.ring_laws.specs.Meaning.{Meaning}
 use Rattle.ring_laws.specs.Algebra.{Passing}
 use Rattle.poly_laws.specs.Values.{level}
 use Rattle.poly_laws.specs.Powers.{power_in, nonzero_magnitude, IsBound}
-use Rattle.poly_generic.specs.PowerAnswer.{GivesTimes}
+use Rattle.poly_laws.specs.TwoVariables.{in_n_and_k, poly_power}
 use Rattle.poly_laws.proofs.PowerBounds.{bounded_unit}
-use Rattle.lin_form.proofs.FormPolynomials.{laws, o, first, more_than_one}
 use Rattle.poly_laws.proofs.Squaring.{power_first, magnitude_first}
-use Rattle.hypergeometric.specs.TreePolynomial.{in_n_and_k, poly_power}
+use Rattle.poly_generic.specs.PowerAnswer.{GivesTimes}
+use Rattle.hypergeometric.proofs.FormPolynomials.{laws, o, first, more_than_one}
 use Rattle.term_classes.specs.Sought.{size_raised}
 
 -- the same power twice

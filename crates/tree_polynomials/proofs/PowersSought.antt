@@ -2,19 +2,19 @@
 use Rattle.std.proofs.Common.{◌≡◌, ℕ, ap, sym, ◌∙◌, subst}
 use Rattle.std.specs.Prelude.{ℤ, Option, Some, None, Result, Ok, Err}
 use Rattle.ring_laws.specs.Meaning.{Meaning, items}
-use Rattle.hypergeometric.specs.TreePolynomial.{constant_in_k}
-use Rattle.term_text.specs.declared.ast.Ast.{Ast}
-use Rattle.term_text.specs.declared.ast.Node.TheVariants.{Pow}
-use Rattle.term_text.specs.View.{tree_of}
-use Rattle.steps.proofs.AnswerLaws.{first_cause, later_answer}
-use Rattle.steps.proofs.Leading.{leads_answer}
+use Rattle.poly_laws.specs.TwoVariables.{constant_in_k}
 use Rattle.steps.specs.Answers.{HasCause, Answers}
 use Rattle.steps.specs.Found.{found}
 use Rattle.steps.specs.Leads.{Leads}
 use Rattle.steps.specs.Steps.{◌then◌}
 use Rattle.steps.specs.TermFaults.{TermSteps, term_cause}
 use Rattle.steps.specs.declared.faults.TermFault.{TermFault}
+use Rattle.steps.proofs.AnswerLaws.{first_cause, later_answer}
+use Rattle.steps.proofs.Leading.{leads_answer}
 use Rattle.term_classes.specs.Sought.{raised_at, polynomial_sought}
+use Rattle.term_text.specs.declared.ast.Ast.{Ast}
+use Rattle.term_text.specs.declared.ast.Node.TheVariants.{Pow}
+use Rattle.term_text.specs.View.{tree_of}
 use Rattle.tree_polynomials.specs.Exponents.{with_exponent, raised_to, ToExponent}
 use Rattle.tree_polynomials.proofs.ExponentLaws.{to_exponent_later}
 use Rattle.tree_polynomials.proofs.NodesSought.{power_sought, some_found}
@@ -57,7 +57,7 @@ module _ (a base exponent : Ast) (is : a.node ≡ Pow base exponent) (read : Ast
     base_fault x k =
         leads.cause (term_cause x)
         (first_cause (polynomial_sought (tree_of base)) (raised_at a.at power) (term_cause x)
-            (subst (λ t. HasCause (polynomial_sought (tree_of t)) (term_cause x)) b_is k))
+        (subst (λ t. HasCause (polynomial_sought (tree_of t)) (term_cause x)) b_is k))
 
     pub base_raised : {T : Type 0} (result : Result (Option T) TermFault) (x : Option T) (view : T → Meaning)
         → (polynomial_sought (tree_of b)).outcome ≡ Ok (found view x) → Answers term_cause (found view) (raised_at a.at power (found view x)) result

@@ -5,10 +5,10 @@ use Rattle.ring_laws.specs.Meaning.{Meaning}
 use Rattle.ring_laws.specs.Algebra.{Passing, ProductInBounds}
 use Rattle.poly_laws.specs.Values.{level}
 use Rattle.poly_laws.specs.Powers.{nonzero_magnitude, IsBound}
+use Rattle.poly_laws.specs.TwoVariables.{in_n_and_k}
 use Rattle.poly_laws.proofs.PowerBounds.{bounded_unit, bounded_product, bounded_self, in_bounds, part_fits}
-use Rattle.lin_form.proofs.FormPolynomials.{laws, o, more_than_one}
 use Rattle.poly_laws.proofs.Squaring.{magnitude_first}
-use Rattle.hypergeometric.specs.TreePolynomial.{in_n_and_k}
+use Rattle.hypergeometric.proofs.FormPolynomials.{laws, o, more_than_one}
 use Rattle.term_classes.specs.Sought.{product_of_polynomials, sizes_multiplied}
 use Rattle.tree_polynomials.proofs.ItemsBehind.{item_first}
 

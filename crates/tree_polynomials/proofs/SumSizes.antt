@@ -4,8 +4,8 @@ use Rattle.std.specs.Prelude.{IsTrue}
 use Rattle.ring_laws.specs.Meaning.{Meaning}
 use Rattle.ring_laws.specs.Algebra.{Passing, SumInBounds}
 use Rattle.poly_laws.specs.Values.{level}
-use Rattle.lin_form.proofs.FormPolynomials.{laws, o}
-use Rattle.hypergeometric.specs.TreePolynomial.{in_n_and_k}
+use Rattle.poly_laws.specs.TwoVariables.{in_n_and_k}
+use Rattle.hypergeometric.proofs.FormPolynomials.{laws, o}
 use Rattle.term_classes.specs.Sought.{sum_of_polynomials, sizes_added}
 use Rattle.tree_polynomials.proofs.ItemsBehind.{item_first}
 
@@ -87,7 +87,7 @@ sum_step xs meaning i x m sum some within is h e =
 -- a summand whose sum with those behind it is out of bounds
 pub sum_out : {T : Type 0} (xs : List T) (meaning : T → Meaning) (passes : (x : T) → IsTrue ((level 2).passes (meaning x)))
     (i : ℕ) (x : T) (m : Meaning) → 0 < i → i ≤ length xs → x ≡ get_or xs (i - 1) x → m ≡ sum_of_polynomials (map meaning (drop i xs))
-        → ¬ SumInBounds (level 2) (meaning x) m
+    → ¬ SumInBounds (level 2) (meaning x) m
     → ¬ in_n_and_k.Fits (sizes_added (map meaning xs))
 sum_out xs meaning passes i x m some within is h out =
     step_out meaning passes xs (i - 1) x (drop i xs) m (item_first xs i x some within is) h out

@@ -1,12 +1,12 @@
 -- The steps in which the constant of a power and of a sum is sought, where the tree has no polynomial.
 use Rattle.std.specs.Prelude.{ℕ, ℤ, true, unsigned_abs, Option, Some, None}
-use Rattle.hypergeometric.specs.Fraction.{Fraction}
-use Rattle.hypergeometric.specs.Tree.{Tree, Parts, no_parts, part}
-use Rattle.hypergeometric.specs.TreePolynomial.{constant_of}
 use Rattle.steps.specs.Found.{where_some}
 use Rattle.steps.specs.Steps.{gives, within_limit, ◌then◌}
 use Rattle.steps.specs.TermFaults.{TermSteps}
 use Rattle.steps.specs.declared.limits.LimitName.TheVariants.{Exponent}
+use Rattle.hypergeometric.specs.Fraction.{Fraction}
+use Rattle.grammar.specs.Tree.{Tree, Parts, no_parts, part}
+use Rattle.term_classes.specs.TreePolynomial.{constant_of}
 use Rattle.term_classes.specs.Sought.{polynomial_sought, constant_sought, power_made, negative_of}
 
 -- a constant exponent within its limit

@@ -1,7 +1,6 @@
 -- A constant exponent, and the steps that follow from it.
 use Rattle.std.specs.Prelude.{◌≡◌, ℕ, ℤ, unsigned_abs, Option, Some, None, Result, Ok, Err}
 use Rattle.ring_laws.specs.Meaning.{Meaning}
-use Rattle.hypergeometric.specs.TreePolynomial.{constant_of}
 use Rattle.steps.specs.Answers.{HasCause}
 use Rattle.steps.specs.Found.{where_some}
 use Rattle.steps.specs.Leads.{Leads}
@@ -9,6 +8,7 @@ use Rattle.steps.specs.Steps.{within_limit, ◌then◌}
 use Rattle.steps.specs.TermFaults.{TermSteps, term_cause}
 use Rattle.steps.specs.declared.faults.TermFault.{TermFault}
 use Rattle.steps.specs.declared.limits.LimitName.TheVariants.{Exponent}
+use Rattle.term_classes.specs.TreePolynomial.{constant_of}
 use Rattle.term_classes.specs.Sought.{where_natural}
 
 -- what follows from a constant exponent from 0 to 12

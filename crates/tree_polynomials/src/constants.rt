@@ -3,7 +3,7 @@
 ghost use Rattle.std.specs.Prelude.{◌≡◌, ◌≤◌, unsigned_abs};
 ghost use Rattle.ring_laws.specs.Meaning.{items};
 ghost use Rattle.hypergeometric.specs.Fraction.{fraction_negative};
-ghost use Rattle.hypergeometric.specs.TreePolynomial.{constant_in_k};
+ghost use Rattle.poly_laws.specs.TwoVariables.{constant_in_k};
 ghost use Rattle.term_text.specs.View.{tree_of, parts_of};
 ghost use Rattle.steps.specs.Answers.{Answers};
 ghost use Rattle.steps.specs.Found.{found};

@@ -2,7 +2,7 @@
 
 ghost use Rattle.std.specs.Prelude.{◌≡◌, ◌≢◌, ◌≤◌, pos, unsigned_abs};
 ghost use Rattle.proper_term.specs.Fields.{number_fraction};
-ghost use Rattle.term_classes.specs.Divisors.{lowest_terms};
+ghost use Rattle.hypergeometric.specs.Divisors.{lowest_terms};
 ghost use Rattle.term_classes.specs.Walk.{times_power};
 ghost use Rattle.steps.specs.Answers.{Answers};
 ghost use Rattle.steps.specs.TermFaults.{term_cause};

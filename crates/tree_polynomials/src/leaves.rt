@@ -2,7 +2,7 @@
 
 ghost use Rattle.std.specs.Prelude.{pos, unsigned_abs};
 ghost use Rattle.ring_laws.specs.Answer.{Gives};
-ghost use Rattle.hypergeometric.specs.TreePolynomial.{in_n_and_k, poly_n, poly_k};
+ghost use Rattle.poly_laws.specs.TwoVariables.{in_n_and_k, poly_n, poly_k};
 
 use poly_generic::{Zn, Znk};
 use ring_laws::{Ring, RingFault, Whole};

@@ -3,7 +3,7 @@
 ghost use Rattle.std.specs.Prelude.{◌≡◌, map, Some, IfOk, IfErr};
 ghost use Rattle.ring_laws.specs.Meaning.{Meaning};
 ghost use Rattle.ring_laws.specs.Answer.{Gives, OnFault};
-ghost use Rattle.hypergeometric.specs.TreePolynomial.{in_n_and_k};
+ghost use Rattle.poly_laws.specs.TwoVariables.{in_n_and_k};
 ghost use Rattle.steps.specs.Answers.{Answers};
 ghost use Rattle.steps.specs.Found.{made_of, found};
 ghost use Rattle.steps.specs.Operations.{of_polynomial};

@@ -2,7 +2,7 @@
 
 ghost use Rattle.std.specs.Prelude.{◌≡◌, ℕ, Option, map};
 ghost use Rattle.ring_laws.specs.Meaning.{Meaning, items};
-ghost use Rattle.hypergeometric.specs.TreePolynomial.{constant_in_n, constant_in_k};
+ghost use Rattle.poly_laws.specs.TwoVariables.{constant_in_n, constant_in_k};
 ghost use Rattle.term_text.specs.View.{tree_of, parts_of};
 ghost use Rattle.steps.specs.Answers.{Answers};
 ghost use Rattle.steps.specs.Found.{found};

@@ -6,7 +6,7 @@ ghost use Rattle.steps.specs.Answers.{Answers};
 ghost use Rattle.steps.specs.Operations.{of_number};
 ghost use Rattle.steps.specs.Steps.{makes};
 ghost use Rattle.steps.specs.TermFaults.{term_cause};
-ghost use Rattle.term_classes.specs.Divisors.{nonzero_size};
+ghost use Rattle.hypergeometric.specs.Divisors.{nonzero_size};
 ghost use Rattle.tree_polynomials.specs.Views.{whole_value};
 
 use poly_generic::times_power;

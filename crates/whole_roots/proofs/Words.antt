@@ -1,8 +1,7 @@
 -- Horner's rule with two words.
 use Rattle.std.specs.Prelude.{◌≡◌, ℕ, ◌≤◌, ◌<◌, ◌+◌, ◌*◌, ◌-◌, ◌^◌, ℤ, pos, ◌+ℤ◌, ◌*ℤ◌, unsigned_abs, [], ◌∷◌, refl}
-use Rattle.std.proofs.Common.{sym, ◌∙◌, subst, arith, mul-le-mul}
+use Rattle.std.proofs.Common.{sym, ◌∙◌, subst, arith, mul-le-mul, to_z, of_z}
 use Rattle.std.specs.Int.{w128}
-use Rattle.std.proofs.Common.{to_z, of_z}
 use Rattle.std.proofs.lemmas.Int.{ints, to_z-of_z, fits_signed_from_abs}
 use Rattle.ring_solver.proofs.Read.{ring_z, reading_z}
 

@@ -11,4 +11,4 @@ returns-in-Err-clause-cause g c =
     subst (λ (r : Refusal). (bytes : List ℕ) × AreHeld (g.S.Source.left c.args.input.now) bytes × IsCause c.args.command bytes r)
     (sym c.refusal_of.ensures.exact)
     (end_caused c.args.command _ _ c.in-Err.end c.most_bytes_of.result c.most_bytes_of.ensures.most
-        (λ n e. c.in-Err.ensures.beyond n (ap Err e)) (λ n e. c.in-Err.ensures.limit_taken n (ap Err e)) (λ n e. c.in-Err.ensures.limit n (ap Err e)))
+    (λ n e. c.in-Err.ensures.beyond n (ap Err e)) (λ n e. c.in-Err.ensures.limit_taken n (ap Err e)) (λ n e. c.in-Err.ensures.limit n (ap Err e)))

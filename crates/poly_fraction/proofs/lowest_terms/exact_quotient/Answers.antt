@@ -1,6 +1,5 @@
-use Rattle.std.specs.Int.{w128}
+use Rattle.std.specs.Int.{w128, ◌∣◌}
 use Rattle.std.proofs.Common.{sym, ◌∙◌, subst, unsigned_abs}
-use Rattle.std.specs.Int.{◌∣◌}
 use Rattle.std.proofs.lemmas.Int.{fits_signed_from_abs}
 use Rattle.poly_fraction.proofs.ExactQuotients.{exact}
 use Rattle.poly_fraction.proofs.lowest_terms.exact_quotient.Goals as goal

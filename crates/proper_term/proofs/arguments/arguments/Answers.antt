@@ -1,8 +1,8 @@
 use Rattle.std.proofs.Common.{◌++◌, [], ◌∷◌, ap, sym, ◌∙◌, List, map, take}
 use Rattle.std.specs.Prelude.{unsigned_abs}
 use Rattle.hypergeometric.specs.LinearForm.{Factor, form_value}
+use Rattle.hypergeometric.specs.FactorLists.{factor_with}
 use Rattle.lin_form.specs.Forms.{form_of}
-use Rattle.lin_form.specs.FactorLists.{factor_with}
 use Rattle.lin_form.specs.ListOf.{list_of}
 use Rattle.proper_term.specs.Cancelled.{Argument, arguments_at}
 use Rattle.proper_term.specs.Cursors.{argument_of}

@@ -1,8 +1,8 @@
+use Rattle.std.proofs.Common.{refl}
 use Rattle.hypergeometric.specs.FormOrder.{IsPrimitive}
 use Rattle.hypergeometric.specs.TermFacts.{IsNotConstant}
-use Rattle.std.proofs.Common.{refl}
+use Rattle.hypergeometric.specs.FactorLists.{factor_with}
 use Rattle.lin_form.specs.ListOf.{list_of}
-use Rattle.lin_form.specs.FactorLists.{factor_with}
 use Rattle.lin_form.specs.Forms.{form_of}
 use Rattle.proper_term.proofs.ListItems.{all_from}
 use Rattle.proper_term.proofs.facts.are_divisors.Goals as goal

@@ -2,8 +2,8 @@ use Rattle.std.proofs.Common.{arith}
 use Rattle.std.proofs.lemmas.Int.{ints}
 use Rattle.std.specs.Prelude.{◌≢◌, pos}
 use Rattle.hypergeometric.specs.LinearForm.{form_value}
+use Rattle.hypergeometric.specs.FactorLists.{factor_with}
 use Rattle.lin_form.specs.Forms.{form_of}
-use Rattle.lin_form.specs.FactorLists.{factor_with}
 use Rattle.lin_form.specs.ListOf.{list_of}
 use Rattle.proper_term.specs.Points.{point_of}
 use Rattle.proper_term.proofs.ListItems.{all_from}

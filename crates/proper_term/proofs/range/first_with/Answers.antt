@@ -1,10 +1,10 @@
 use Rattle.std.proofs.Common.{◌+◌, ap, sym, ◌∙◌, arith, w64, drop}
 use Rattle.std.proofs.lemmas.Int.{ints, to_z-of_z}
 use Rattle.std.specs.Prelude.{ℤ}
-use Rattle.lin_form.specs.Forms.{form_of}
-use Rattle.lin_form.specs.FactorLists.{factor_with}
-use Rattle.lin_form.specs.ListOf.{list_of}
+use Rattle.hypergeometric.specs.FactorLists.{factor_with}
 use Rattle.hypergeometric.specs.NaturalRange.{first_with_slope}
+use Rattle.lin_form.specs.Forms.{form_of}
+use Rattle.lin_form.specs.ListOf.{list_of}
 use Rattle.proper_term.proofs.ListItems.{first_here, first_later}
 use Rattle.proper_term.proofs.range.first_with.Goals as goal
 

@@ -2,8 +2,9 @@ use Rattle.std.proofs.Common.{◌≡◌, ap, sym, ◌∙◌, arith, Some, Option
 use Rattle.std.proofs.lemmas.Int.{ints}
 use Rattle.std.specs.Prelude.{ℤ, pos, negsuc}
 use Rattle.hypergeometric.specs.LinearForm.{LinearForm}
-use Rattle.lin_form.specs.Forms.{form_of, form_with}
 use Rattle.hypergeometric.specs.NaturalRange.{first_with_slope, low_end, high_end, both_ends}
+use Rattle.hypergeometric.specs.Forms.{form_with}
+use Rattle.lin_form.specs.Forms.{form_of}
 use Rattle.proper_term.specs.TermOf.{term_of}
 use Rattle.proper_term.proofs.range.natural.Goals as goal
 

@@ -1,8 +1,8 @@
 use Rattle.ring_laws.specs.Answer.{fault_weaker}
-use Rattle.lin_form.specs.Forms.{form_of}
-use Rattle.lin_form.specs.FactorLists.{factor_with}
-use Rattle.lin_form.specs.ListOf.{list_of}
 use Rattle.poly_fraction.specs.FractionOf.{fraction_of}
+use Rattle.hypergeometric.specs.FactorLists.{factor_with}
+use Rattle.lin_form.specs.Forms.{form_of}
+use Rattle.lin_form.specs.ListOf.{list_of}
 use Rattle.proper_term.specs.Fields.{whole_fraction}
 use Rattle.proper_term.specs.Points.{point_of}
 use Rattle.proper_term.specs.Runs.{GivesRun}

@@ -1,13 +1,13 @@
 use Rattle.std.proofs.Common.{◌≡◌, ap, sym, ◌∙◌, subst, true≢false, [], ◌∷◌}
 use Rattle.ring_laws.specs.Answer.{fault_weaker}
 use Rattle.ring_laws.specs.Wholes.{is_zero}
-use Rattle.hypergeometric.specs.Fraction.{Fraction, natural_power}
 use Rattle.poly_fraction.specs.FractionOf.{fraction_of}
+use Rattle.hypergeometric.specs.Fraction.{Fraction, natural_power}
+use Rattle.hypergeometric.proofs.FractionLaws.{pow_not_zero}
 use Rattle.proper_term.specs.Fields.{whole_fraction, number_fraction}
 use Rattle.proper_term.specs.Runs.{GivesRun}
 use Rattle.proper_term.proofs.Faults.{handed_on}
 use Rattle.proper_term.proofs.PowerFractions.{power_parts, top_small, bottom_small}
-use Rattle.proper_term.proofs.WholePowers.{pow_not_zero}
 use Rattle.proper_term.proofs.running.times_natural_power.Goals as goal
 
 pub returns-in_err-top : goal.returns-in_err-top

@@ -1,8 +1,8 @@
 use Rattle.std.proofs.Common.{◌≡◌, ◌++◌, ◌+◌, pos, ◌-◌, drop, ap, arith, sym, ◌∙◌, subst, List, ℕ}
 use Rattle.hypergeometric.specs.LinearForm.{Factor}
+use Rattle.hypergeometric.specs.FactorLists.{without}
 use Rattle.lin_form.specs.ListOf.{list_of}
 use Rattle.lin_form.specs.declared.factor_lists.FactorList.{FactorList}
-use Rattle.term_classes.specs.Walk.{without}
 use Rattle.term_walk.proofs.CancelledLists.{left_more, left_fits, left_passed}
 use Rattle.term_walk.proofs.cancelling_forms.other_forms.Goals as goal
 use Rattle.term_walk.proofs.cancelling_forms.other_forms.Goals.{then-rest-gt0+in_ok-multiply, else-rest-gt0}

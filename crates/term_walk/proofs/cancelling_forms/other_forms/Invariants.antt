@@ -1,6 +1,6 @@
 use Rattle.std.proofs.Common.{◌≡◌, pos, ◌++◌, drop}
+use Rattle.hypergeometric.specs.FactorLists.{without}
 use Rattle.lin_form.specs.ListOf.{list_of}
-use Rattle.term_classes.specs.Walk.{without}
 use Rattle.term_walk.proofs.cancelling_forms.other_forms.Given as goal
 
 -- what is gathered, followed by what the rest gives, is what the list gives

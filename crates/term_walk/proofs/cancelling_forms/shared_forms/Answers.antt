@@ -1,8 +1,8 @@
 use Rattle.std.proofs.Common.{◌≡◌, ◌++◌, ◌+◌, pos, min, drop, ap, arith, sym, ◌∙◌, subst, List, ℕ}
 use Rattle.hypergeometric.specs.LinearForm.{Factor}
+use Rattle.hypergeometric.specs.FactorLists.{in_both}
 use Rattle.lin_form.specs.ListOf.{list_of}
 use Rattle.lin_form.specs.declared.factor_lists.FactorList.{FactorList}
-use Rattle.term_classes.specs.Walk.{in_both}
 use Rattle.term_walk.proofs.CancelledLists.{shared_more, shared_fits, shared_passed}
 use Rattle.term_walk.proofs.cancelling_forms.shared_forms.Goals as goal
 use Rattle.term_walk.proofs.cancelling_forms.shared_forms.Goals.{then-smaller-gt0+in_ok-multiply, else-smaller-gt0}

@@ -1,6 +1,6 @@
 use Rattle.std.proofs.Common.{◌≡◌, pos, ◌++◌, drop}
+use Rattle.hypergeometric.specs.FactorLists.{in_both}
 use Rattle.lin_form.specs.ListOf.{list_of}
-use Rattle.term_classes.specs.Walk.{in_both}
 use Rattle.term_walk.proofs.cancelling_forms.shared_forms.Given as goal
 
 -- what is gathered, followed by what the rest gives, is what the list gives

@@ -2,17 +2,17 @@ use Rattle.std.proofs.Common.{w64}
 use Rattle.std.proofs.lemmas.Int.{to_z-of_z}
 use Rattle.std.proofs.lemmas.Result.{err_from_is_err_and}
 use Rattle.std.specs.Prelude.{Option, ℤ}
-use Rattle.hypergeometric.specs.LinearForm.{LinearForm}
-use Rattle.hypergeometric.specs.ProperTerm.{ProperTerm}
-use Rattle.hypergeometric.specs.Tree.{Tree}
-use Rattle.lin_form.specs.Forms.{form_of}
-use Rattle.term_text.specs.View.{tree_of}
-use Rattle.steps.proofs.Leading.{leads_answer}
 use Rattle.steps.specs.Found.{found}
 use Rattle.steps.specs.TermFaults.{term_cause}
+use Rattle.steps.proofs.Leading.{leads_answer}
+use Rattle.hypergeometric.specs.LinearForm.{LinearForm}
+use Rattle.hypergeometric.specs.ProperTerm.{ProperTerm}
+use Rattle.lin_form.specs.Forms.{form_of}
+use Rattle.grammar.specs.Tree.{Tree}
+use Rattle.term_classes.proofs.WalkValues.{base_found}
+use Rattle.term_text.specs.View.{tree_of}
 use Rattle.tree_polynomials.specs.Views.{fraction_value}
 use Rattle.term_walk.specs.Views.{gathered_of, wide_form_of}
-use Rattle.term_classes.proofs.WalkValues.{base_found}
 use Rattle.term_walk.proofs.RowLeads as row
 use Rattle.term_walk.proofs.exponents.times_exponential_of.Goals as goal
 

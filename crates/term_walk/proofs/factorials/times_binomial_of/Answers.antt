@@ -1,13 +1,13 @@
 use Rattle.std.proofs.lemmas.Result.{err_from_is_err_and}
 use Rattle.std.specs.Prelude.{ℤ}
-use Rattle.hypergeometric.specs.LinearForm.{LinearForm}
-use Rattle.hypergeometric.specs.ProperTerm.{ProperTerm}
-use Rattle.hypergeometric.specs.Tree.{Tree}
-use Rattle.term_text.specs.View.{tree_of}
-use Rattle.term_classes.specs.Walk.{argument_sought, not_negative, place_of}
+use Rattle.steps.specs.TermFaults.{term_cause}
 use Rattle.steps.proofs.AnswerLaws.{first_cause}
 use Rattle.steps.proofs.Leading.{leads_on, leads_answer}
-use Rattle.steps.specs.TermFaults.{term_cause}
+use Rattle.hypergeometric.specs.LinearForm.{LinearForm}
+use Rattle.hypergeometric.specs.ProperTerm.{ProperTerm}
+use Rattle.grammar.specs.Tree.{Tree}
+use Rattle.term_classes.specs.Walk.{argument_sought, not_negative, place_of}
+use Rattle.term_text.specs.View.{tree_of}
 use Rattle.term_walk.specs.Views.{gathered_of, wide_form_of}
 use Rattle.term_walk.specs.WalkRows.{difference_left}
 use Rattle.term_walk.proofs.HeldNumbers.{held}
@@ -40,7 +40,7 @@ returns-in_err-lower_form c =
     rw (p.1, p.2) (record {
       answers = sought.cause (term_cause c.in_err-lower_form.field-0.0) (first_cause (argument_sought lower)
           (λ m. forms_left c.args.at (place_of upper) (place_of lower) l m w f)
-              (term_cause c.in_err-lower_form.field-0.0) c.in_err-lower_form.ensures.answers);
+          (term_cause c.in_err-lower_form.field-0.0) c.in_err-lower_form.ensures.answers);
     })
 
 -- a negative upper argument
@@ -78,7 +78,7 @@ returns-in_err-not_negative_number-2 c =
     rw (p.1, p.2) (record {
       answers = kept.cause (term_cause c.in_err-not_negative_number-2.field-0.0) (first_cause (not_negative c.args.lower.now.at m)
           (λ m1. difference_left c.args.at l m w f) (term_cause c.in_err-not_negative_number-2.field-0.0)
-              c.in_err-not_negative_number-2.ensures.answers);
+          c.in_err-not_negative_number-2.ensures.answers);
     })
 
 -- the two forms

@@ -2,18 +2,18 @@ use Rattle.std.proofs.Common.{ap, w64}
 use Rattle.std.proofs.lemmas.Int.{to_z-of_z}
 use Rattle.std.proofs.lemmas.Result.{err_from_is_err_and}
 use Rattle.std.specs.Prelude.{ℤ}
-use Rattle.hypergeometric.specs.LinearForm.{LinearForm}
-use Rattle.hypergeometric.specs.ProperTerm.{ProperTerm}
-use Rattle.hypergeometric.specs.Tree.{Tree}
-use Rattle.lin_form.specs.Forms.{form_of}
-use Rattle.term_text.specs.View.{tree_of}
-use Rattle.term_text.proofs.Views.{tree_of-at}
-use Rattle.steps.proofs.AnswerLaws.{first_cause}
-use Rattle.steps.proofs.Leading.{leads_on, leads_answer}
 use Rattle.steps.specs.Steps.{◌then◌}
 use Rattle.steps.specs.TermFaults.{term_cause}
+use Rattle.steps.proofs.AnswerLaws.{first_cause}
+use Rattle.steps.proofs.Leading.{leads_on, leads_answer}
+use Rattle.hypergeometric.specs.LinearForm.{LinearForm}
+use Rattle.hypergeometric.specs.ProperTerm.{ProperTerm}
+use Rattle.lin_form.specs.Forms.{form_of}
+use Rattle.grammar.specs.Tree.{Tree}
 use Rattle.term_classes.specs.Forms.{limited_form}
 use Rattle.term_classes.specs.Walk.{argument_sought, not_negative, place_of, with_factorial}
+use Rattle.term_text.specs.View.{tree_of}
+use Rattle.term_text.proofs.Views.{tree_of-at}
 use Rattle.term_walk.specs.Views.{gathered_of, wide_form_of}
 use Rattle.term_walk.proofs.RowLeads.{argument_leads, kept_leads, limited_leads}
 use Rattle.term_walk.proofs.factorials.times_factorial_of.Goals as goal

@@ -1,13 +1,13 @@
 use Rattle.std.proofs.lemmas.Result.{err_from_is_err_and}
 use Rattle.std.specs.Prelude.{ℤ}
-use Rattle.hypergeometric.specs.LinearForm.{LinearForm}
-use Rattle.hypergeometric.specs.ProperTerm.{ProperTerm}
-use Rattle.steps.proofs.AnswerLaws.{first_cause}
-use Rattle.steps.proofs.Leading.{leads_on, leads_answer}
 use Rattle.steps.specs.Operations.{of_number}
 use Rattle.steps.specs.Steps.{makes, ◌then◌}
 use Rattle.steps.specs.TermFaults.{term_cause}
-use Rattle.term_classes.specs.Forms.{form_difference, difference_size}
+use Rattle.steps.proofs.AnswerLaws.{first_cause}
+use Rattle.steps.proofs.Leading.{leads_on, leads_answer}
+use Rattle.hypergeometric.specs.LinearForm.{LinearForm}
+use Rattle.hypergeometric.specs.ProperTerm.{ProperTerm}
+use Rattle.hypergeometric.specs.Forms.{form_difference, difference_size}
 use Rattle.term_classes.specs.Walk.{not_negative}
 use Rattle.term_walk.specs.Views.{gathered_of, wide_form_of}
 use Rattle.term_walk.specs.WalkRows.{limits_left}

@@ -1,16 +1,16 @@
 use Rattle.std.proofs.Common.{◌≡◌, refl, ap, sym, ◌∙◌, subst, arith, true, false}
 use Rattle.std.proofs.lemmas.Result.{err_from_is_err_and}
 use Rattle.std.specs.Prelude.{Ok, unsigned_abs}
-use Rattle.hypergeometric.specs.Tree as d
+use Rattle.steps.specs.Answers.{Answers}
+use Rattle.steps.specs.Found.{found}
+use Rattle.steps.specs.TermFaults.{term_cause}
+use Rattle.steps.proofs.Leading.{leads_on}
+use Rattle.grammar.specs.Tree as d
+use Rattle.term_classes.specs.Walk.{walk}
 use Rattle.term_text.specs.View.{tree_of, parts_of}
 use Rattle.term_text.specs.declared.ast.Part.{Part}
 use Rattle.term_text.specs.declared.ast.Node.TheVariants.{Literal, N, K, Sum}
 use Rattle.term_text.proofs.Views.{node_of-literal, node_of-n, node_of-k, node_of-sum}
-use Rattle.term_classes.specs.Walk.{walk}
-use Rattle.steps.proofs.Leading.{leads_on}
-use Rattle.steps.specs.Answers.{Answers}
-use Rattle.steps.specs.Found.{found}
-use Rattle.steps.specs.TermFaults.{term_cause}
 use Rattle.term_walk.specs.Views.{gathered_of, wide_form_of}
 use Rattle.term_walk.specs.WalkRows.{zero_exponent, constant, varying, is_one_turned}
 use Rattle.term_walk.proofs.HeldNumbers.{held}
@@ -126,7 +126,7 @@ walk_node-returns-in-Constant t c =
       answers = pow_answer c.args.tree.now c.in-Pow.base c.in-Pow.exponent c.get.result.now c.args.power.value (gathered_of c.args.gathered)
           (constant c.in-Constant.product.value) c.walk_node-in-Constant.result c.in-Pow.is c.get.ensures told
           (subst (λ a. Answers term_cause gathered_of (walk (tree_of a) c.in-Constant.product.value
-              (gathered_of c.args.gathered)) c.walk_node-in-Constant.result)
+          (gathered_of c.args.gathered)) c.walk_node-in-Constant.result)
           c.get-in-Constant.ensures c.walk_node-in-Constant.ensures.answers);
     }
 

@@ -3,7 +3,7 @@ use Rattle.std.proofs.Common.{rules, ◌≡◌, sym, subst, ap, ◌∙◌, FitsS
 use Rattle.std.proofs.lemmas.Int.{to_z-of_z}
 use Rattle.std.specs.Prelude.{Ok}
 use Rattle.hypergeometric.specs.FormOrder.{IsForm}
-use Rattle.lin_form.specs.Forms.{form_with}
+use Rattle.hypergeometric.specs.Forms.{form_with}
 use Rattle.term_walk.specs.Views.{wide_form_of}
 use Rattle.term_walk.proofs.LimitedForms.{form_kept, form_outcome}
 use Rattle.term_walk.proofs.wide_forms.within_offset_limit.Goals as goal
@@ -15,7 +15,7 @@ unreachable-requires c =
     let k : FitsSigned w64 c.in_ok-k_slope.k_slope = search rules in
     let o : FitsSigned w64 c.in_ok-offset.offset = search rules in
     let same : form_with c.in_ok-n_slope.n_slope c.in_ok-k_slope.k_slope c.in_ok-offset.offset
-        ≡ form_with (to_z w64 (of_z w64 c.in_ok-n_slope.n_slope)) (to_z w64 (of_z w64 c.in_ok-k_slope.k_slope)) (to_z w64 (of_z w64 c.in_ok-offset.offset)) =
+    ≡ form_with (to_z w64 (of_z w64 c.in_ok-n_slope.n_slope)) (to_z w64 (of_z w64 c.in_ok-k_slope.k_slope)) (to_z w64 (of_z w64 c.in_ok-offset.offset)) =
     sym (λ i. form_with (to_z-of_z w64 _ n i) (to_z-of_z w64 _ k i) (to_z-of_z w64 _ o i)) in
     c.in-None.ensures.given (subst IsForm same (form_kept c.args.name (wide_form_of c.args.form) _ _ _ c.in_ok-n_slope.ensures.answers
     c.in_ok-k_slope.ensures.answers c.in_ok-offset.ensures.answers c.requires.small))

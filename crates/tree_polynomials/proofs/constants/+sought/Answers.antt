@@ -1,18 +1,18 @@
 use Rattle.std.proofs.Common.{◌≡◌, ◌+◌, ap, sym, ◌∙◌, subst, List, [], ◌∷◌, Ok, Some, None, true, false, refl, arith}
 use Rattle.std.proofs.lemmas.List.{map-append}
-use Rattle.hypergeometric.specs.Fraction.{Fraction}
-use Rattle.hypergeometric.specs.Tree as d
-use Rattle.term_text.specs.View.{tree_of, node_of, parts_of}
-use Rattle.term_text.specs.declared.ast.Ast.{Ast}
-use Rattle.term_text.specs.declared.ast.Part.{Part}
-use Rattle.term_text.proofs.Views.{node_of-sum, node_of-product, node_of-pow}
-use Rattle.steps.proofs.AnswerLaws.{first_cause, later_answer, fault_answer}
-use Rattle.steps.proofs.StepLaws.{then_outcome}
 use Rattle.steps.specs.Answers.{HasCause, Answers}
 use Rattle.steps.specs.Found.{where_some, found}
 use Rattle.steps.specs.Steps.{gives, ◌then◌}
 use Rattle.steps.specs.TermFaults.{term_cause}
+use Rattle.steps.proofs.AnswerLaws.{first_cause, later_answer, fault_answer}
+use Rattle.steps.proofs.StepLaws.{then_outcome}
+use Rattle.hypergeometric.specs.Fraction.{Fraction}
+use Rattle.grammar.specs.Tree as d
 use Rattle.term_classes.specs.Sought.{negative_of, power_made, product_made, constant_sought, constants_sought}
+use Rattle.term_text.specs.View.{tree_of, node_of, parts_of}
+use Rattle.term_text.specs.declared.ast.Ast.{Ast}
+use Rattle.term_text.specs.declared.ast.Part.{Part}
+use Rattle.term_text.proofs.Views.{node_of-sum, node_of-product, node_of-pow}
 use Rattle.tree_polynomials.specs.ConstantCases.{exponent_sought, power_sought, negative_sought}
 use Rattle.tree_polynomials.specs.Factors.{factor_of, factors_of}
 use Rattle.tree_polynomials.specs.Views.{fraction_value}
@@ -27,7 +27,7 @@ constant_of_power-returns t c = record {
   answers = later_answer term_cause (found fraction_value) (constant_sought (tree_of c.args.base.now))
       (λ f. where_some f (power_made c.args.at c.args.power.value))
       (Some (fraction_value c.in-Some.base)) c.constant_power.result (rw c.in-Some.is at c.in_ok-base.ensures.answers)
-          c.constant_power.ensures.answers;
+      c.constant_power.ensures.answers;
 }
 
 -- a product, after its parts
@@ -46,7 +46,7 @@ constant_of_product-returns t c = record {
   answers = later_answer term_cause (found fraction_value) (constants_sought (parts_of c.args.parts.now)) (product_made c.args.at)
       (Some (factors_of c.in-Some.factors)) c.product_in_lowest_terms.result (rw c.in-Some.is at c.in_ok-factors.ensures.answers)
       (subst (λ (xs : List Factor). Answers term_cause (found fraction_value)
-          (product_made c.args.at (Some (factors_of xs))) c.product_in_lowest_terms.result)
+      (product_made c.args.at (Some (factors_of xs))) c.product_in_lowest_terms.result)
       c.as_slice.ensures c.product_in_lowest_terms.ensures.answers);
 }
 
@@ -70,7 +70,7 @@ constant_of_sum-returns-in_err-constant t c =
     record {
       answers = negated_answer (found fraction_value) c.args.parts.now p c.from_residual.result one
           (fault_answer term_cause (found fraction_value) (part then (λ f. gives
-              (negative_of f))) c.from_residual.result fault c.from_residual.ensures.1
+          (negative_of f))) c.from_residual.result fault c.from_residual.ensures.1
           (first_cause part (λ f. gives (negative_of f)) (term_cause fault) c.in_err-constant.ensures.answers));
     }
 
@@ -81,7 +81,7 @@ constant_of_sum-returns-in_default-2 t c =
     record {
       answers = ap (λ ps. (negative_sought ps).outcome) one
           ∙ then_outcome (constant_sought (tree_of p.ast)) (λ f. gives (negative_of f)) None
-              (rw c.in_default-2.is at c.in_ok-constant.ensures.answers);
+          (rw c.in_default-2.is at c.in_ok-constant.ensures.answers);
     }
 
 pub constant_of_sum-returns : goal.constant_of_sum-returns
@@ -102,9 +102,9 @@ constant_of_tree-returns-in-Sum t c =
     record {
       answers = other_answer (found fraction_value) c.args.tree.now (d.sum_of (parts_of ps)) (negative_sought (parts_of ps)) c.constant_of_sum.result
           (ap node_of c.in-Sum.is ∙ node_of-sum ps) (sum_case c.args.tree.now.at (parts_of ps))
-              (rw c.in_default.is at c.in_ok-polynomial.ensures.answers)
+          (rw c.in_default.is at c.in_ok-polynomial.ensures.answers)
           (subst (λ (ps : List Part). Answers term_cause (found fraction_value)
-              (negative_sought (parts_of ps)) c.constant_of_sum.result) c.as_slice.ensures
+          (negative_sought (parts_of ps)) c.constant_of_sum.result) c.as_slice.ensures
           c.constant_of_sum.ensures.answers);
     }
 
@@ -115,9 +115,9 @@ constant_of_tree-returns-in-Product t c =
     record {
       answers = other_answer (found fraction_value) c.args.tree.now (d.product_of (parts_of ps)) (constants_sought (parts_of ps) then product_made at)
           c.constant_of_product.result (ap node_of c.in-Product.is ∙ node_of-product ps) refl
-              (rw c.in_default.is at c.in_ok-polynomial.ensures.answers)
+          (rw c.in_default.is at c.in_ok-polynomial.ensures.answers)
           (subst (λ (ps : List Part). Answers term_cause (found fraction_value)
-              (constants_sought (parts_of ps) then product_made at) c.constant_of_product.result)
+          (constants_sought (parts_of ps) then product_made at) c.constant_of_product.result)
           c.as_slice-in-Product.ensures c.constant_of_product.ensures.answers);
     }
 
@@ -150,11 +150,11 @@ constant_of_tree-returns-in-Some-2 t c =
           result (ap node_of c.in-Pow.is ∙ node_of-pow c.in-Pow.base c.in-Pow.exponent) (power_case at base e)
           (rw c.in_default.is at c.in_ok-polynomial.ensures.answers)
           (later_answer term_cause (found fraction_value) (exponent_sought e) (λ x. where_some x (power_sought at base))
-              (Some c.in-Some-2.power.value) result
+          (Some c.in-Some-2.power.value) result
           (subst (λ (a : Ast). (exponent_sought (tree_of a)).outcome ≡ Ok (Some c.in-Some-2.power.value)) c.get.ensures
           (rw c.in-Some-2.is at c.in_ok-power-in-Pow.ensures.answers))
           (subst (λ (a : Ast). Answers term_cause (found fraction_value)
-              (power_sought at (tree_of a) c.in-Some-2.power.value) result) c.get-in-Pow.ensures
+          (power_sought at (tree_of a) c.in-Some-2.power.value) result) c.get-in-Pow.ensures
           c.constant_of_power.ensures.answers));
     }
 

@@ -2,9 +2,8 @@ use Rattle.std.proofs.Common.{ap, sym, ◌∙◌, true≢false}
 use Rattle.std.specs.Prelude.{◌*ℤ◌}
 use Rattle.std.proofs.Math.IntN.{pow}
 use Rattle.ring_laws.specs.Wholes.{is_zero}
-use Rattle.hypergeometric.proofs.FractionLaws.{product_not_zero}
 use Rattle.steps.proofs.StepLaws.{same_Ok}
-use Rattle.tree_polynomials.proofs.NumberPowers.{pow_not_zero}
+use Rattle.hypergeometric.proofs.FractionLaws.{product_not_zero, pow_not_zero}
 use Rattle.tree_polynomials.proofs.fractions.times_natural_power.Goals as goal
 
 -- a power of the bottom isn't 0

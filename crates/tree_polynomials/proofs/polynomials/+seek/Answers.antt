@@ -67,7 +67,7 @@ polynomial_of_tree-returns-in_err-base-in-Pow t c = record {
   answers = fault_answer term_cause (found meaning_of) (polynomial_sought (tree_of c.args.tree.now)) c.from_residual-in_err-base-in-Pow.result
       c.in_err-base-in-Pow.field-0.0 c.from_residual-in_err-base-in-Pow.ensures.1
       (base_fault c.args.tree.now c.in-Pow.base c.in-Pow.exponent c.in-Pow.is c.get.result.now c.get.ensures c.in_ok-power-in-Pow.field-0
-          c.in-Some.power
+      c.in-Some.power
       c.in_ok-power-in-Pow.ensures.exponent c.in-Some.is c.get-in-Pow.result.now c.get-in-Pow.ensures c.in_err-base-in-Pow.field-0.0
       c.in_err-base-in-Pow.ensures.answers);
 }

@@ -2,11 +2,11 @@ use Rattle.std.proofs.Common.{◌*◌, ap, sym, ◌∙◌, subst, Ok}
 use Rattle.std.specs.Prelude.{◌*ℤ◌}
 use Rattle.std.proofs.Math.IntN.{pow}
 use Rattle.ring_laws.specs.Wholes.{number_of}
-use Rattle.term_classes.specs.Divisors.{nonzero_size}
 use Rattle.steps.specs.Answers.{HasCause}
 use Rattle.steps.specs.Operations.{of_number}
 use Rattle.steps.specs.Steps.{makes}
 use Rattle.steps.specs.TermFaults.{term_cause}
+use Rattle.hypergeometric.specs.Divisors.{nonzero_size}
 use Rattle.tree_polynomials.proofs.NumberPowers.{power_number, power_fault}
 use Rattle.tree_polynomials.proofs.powers.number_times_power.Goals as goal
 

@@ -1,6 +1,5 @@
-use Rattle.std.proofs.Common.{◌++◌, ◌∷◌, [], ℤ, inl, inr, refl, sym, ◌∙◌, ap, subst, map, unsigned_abs, arith}
+use Rattle.std.proofs.Common.{◌++◌, ◌∷◌, [], ℤ, inl, inr, refl, sym, ◌∙◌, ap, subst, map, unsigned_abs, arith, to_z, of_z}
 use Rattle.std.specs.Int.{w128}
-use Rattle.std.proofs.Common.{to_z, of_z}
 use Rattle.std.specs.List.{AllByRecursion}
 use Rattle.std.proofs.lemmas.Int.{to_z-of_z}
 use Rattle.ring_laws.specs.Meaning.{number, listed}

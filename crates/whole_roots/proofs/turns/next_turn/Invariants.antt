@@ -1,6 +1,5 @@
-use Rattle.std.proofs.Common.{◌≡◌, ◌<ℤ◌, ◌≤ℤ◌, ◌-ℤ◌, unsigned_abs}
+use Rattle.std.proofs.Common.{◌≡◌, ◌<ℤ◌, ◌≤ℤ◌, ◌-ℤ◌, unsigned_abs, map}
 use Rattle.ring_laws.specs.Meaning.{number, listed}
-use Rattle.std.proofs.Common.{map}
 use Rattle.whole_roots.specs.Signs.{sign_of, value}
 use Rattle.whole_roots.proofs.turns.next_turn.Given as goal
 

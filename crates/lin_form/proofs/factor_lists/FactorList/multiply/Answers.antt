@@ -1,9 +1,10 @@
 use Rattle.std.specs.Prelude.{◌+◌}
 use Rattle.std.proofs.Common.{refl, subst, sym, ap, ◌∙◌}
 use Rattle.hypergeometric.specs.FormOrder.{AreFactors}
+use Rattle.hypergeometric.proofs.Lookups.{factors_stay}
 use Rattle.lin_form.specs.Forms.{form_of}
 use Rattle.lin_form.specs.FactorLists.{factors_of}
-use Rattle.lin_form.proofs.Lookups.{inserted, factors_stay, on_either}
+use Rattle.lin_form.proofs.Lookups.{inserted, on_either}
 use Rattle.lin_form.proofs.factor_lists.FactorList.multiply.Goals as goal
 
 -- where the insertion gives up, the entries are as they were

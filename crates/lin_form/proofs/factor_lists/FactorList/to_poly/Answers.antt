@@ -1,6 +1,6 @@
 use Rattle.std.proofs.Common.{arith}
+use Rattle.hypergeometric.proofs.ListValues.{list_at}
 use Rattle.lin_form.specs.ListOf.{list_of}
-use Rattle.lin_form.proofs.ListValues.{list_at}
 use Rattle.lin_form.proofs.ListProducts.{list_start, list_step, list_fault, list_end, item_there, fault_list, all_dropped}
 use Rattle.lin_form.proofs.factor_lists.FactorList.to_poly.Goals as goal
 

@@ -1,7 +1,8 @@
 use Rattle.std.proofs.Common.{arith, subst}
 use Rattle.std.proofs.lemmas.Int.{ints}
-use Rattle.lin_form.specs.Forms.{form_of, IsGreatestDivisor}
-use Rattle.lin_form.proofs.PrimitiveForms.{divisor_of, divisor_within}
+use Rattle.hypergeometric.specs.Forms.{IsGreatestDivisor}
+use Rattle.hypergeometric.proofs.PrimitiveForms.{divisor_of, divisor_within}
+use Rattle.lin_form.specs.Forms.{form_of}
 use Rattle.lin_form.proofs.forms.LinForm.divisor.Goals as goal
 
 -- the greatest common divisor of the three numbers is between 1 and 2^40

@@ -1,7 +1,7 @@
 use Rattle.std.proofs.Common.{arith}
 use Rattle.std.proofs.lemmas.Int.{ints}
+use Rattle.hypergeometric.proofs.Shifts.{match_by, matched_k_slope, matched_n_slope}
 use Rattle.lin_form.specs.Forms.{form_of}
-use Rattle.lin_form.proofs.Shifts.{match_by, matched_k_slope, matched_n_slope}
 use Rattle.lin_form.proofs.forms.LinForm.match_shift.Goals as goal
 use Rattle.lin_form.proofs.forms.LinForm.match_shift.Goals.{then-self-other-via-then-self-other, then-self-other-via-else-self-other+then-self-other-2}
 

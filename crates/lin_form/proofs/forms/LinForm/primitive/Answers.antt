@@ -3,9 +3,10 @@ use Rattle.std.specs.Int.{w64, cast_signed as to_z, cast_unsigned as of_z}
 use Rattle.std.proofs.Common.{arith, subst, sym, ◌∙◌, inl, inr, true≢false, refl}
 use Rattle.std.proofs.lemmas.Int.{ints}
 use Rattle.hypergeometric.specs.LinearForm.{LinearForm}
-use Rattle.lin_form.specs.Forms.{form_of, form_with, IsGreatestDivisor}
-use Rattle.lin_form.proofs.PrimitiveForms.{AreQuotients, product, SignIs, primitive_quotients, divides_by, quotient_kept}
-use Rattle.lin_form.proofs.OnlyPrimitive.{only_primitive}
+use Rattle.hypergeometric.specs.Forms.{form_with, IsGreatestDivisor}
+use Rattle.hypergeometric.proofs.PrimitiveForms.{AreQuotients, product, SignIs, primitive_quotients, divides_by, quotient_kept}
+use Rattle.hypergeometric.proofs.OnlyPrimitive.{only_primitive}
+use Rattle.lin_form.specs.Forms.{form_of}
 use Rattle.lin_form.proofs.forms.LinForm.primitive.Goals as goal
 use Rattle.lin_form.proofs.forms.LinForm.primitive.Goals.{then-is_positive_first, else-is_positive_first}
 

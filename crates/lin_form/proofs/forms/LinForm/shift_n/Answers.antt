@@ -2,7 +2,7 @@ use Rattle.std.specs.Prelude.{◌≡◌, ◌+ℤ◌, ◌*ℤ◌}
 use Rattle.std.specs.Int.{w64}
 use Rattle.std.proofs.Common.{arith, rules, ◌∙◌, FitsSigned}
 use Rattle.std.proofs.lemmas.Int.{ints, to_z-of_z}
-use Rattle.lin_form.proofs.Shifts.{n_shifted}
+use Rattle.hypergeometric.proofs.Shifts.{n_shifted}
 use Rattle.lin_form.proofs.forms.LinForm.shift_n.Goals as goal
 
 -- the offset is moved by the n slope times the shift

@@ -26,7 +26,7 @@ returns-in-Err c = record {
   answers = subst (λ fault. HasCause (times_polynomial c.args.at (listed (map coefficient c.args.polynomial.list.items)) (pos c.args.power)
       (gathered_of c.args.self)) (term_cause fault))
       (sym c.fault_at.ensures.fault) (power_fault c.args.at (listed (map coefficient c.args.polynomial.list.items)) c.args.power
-          (gathered_of c.args.self)
+      (gathered_of c.args.self)
       (polynomial_kept c.args.self.poly.list.items c.args.self.poly.ended c.args.self.poly.short).passes c.args.self.not_zero c.in-Err.fault
       c.in-Err.ensures.gives);
 }

@@ -14,7 +14,7 @@ returns-in-Some-constant_of c = record {
   answers = sought_number _ gathered_of c.times_number.result c.args.at c.args.power (gathered_of c.args.self) c.args.polynomial c.in-Some.polynomial
       c.in-Some.is c.in-Some-constant_of.number.value c.in-Some-constant_of.ensures.constant
       (subst (λ w. Answers term_cause gathered_of (times_number c.args.at c.in-Some-constant_of.number.value w
-          (gathered_of c.args.self)) c.times_number.result)
+      (gathered_of c.args.self)) c.times_number.result)
       (to_z-of_z w64 c.args.power c.ranges.power) c.times_number.ensures.answers);
 }
 
@@ -24,6 +24,6 @@ returns-in-None c = record {
       (gathered_of c.args.self) c.args.polynomial c.in-Some.polynomial
       c.in-Some.is c.in-None.ensures.constant
       (subst (λ w. Answers term_cause gathered_of (times_polynomial c.args.at (listed (map coefficient c.in-Some.polynomial.list.items)) w
-          (gathered_of c.args.self))
+      (gathered_of c.args.self))
       c.times_polynomial.result) (to_z-of_z w64 c.args.power c.ranges.power) c.times_polynomial.ensures.answers);
 }

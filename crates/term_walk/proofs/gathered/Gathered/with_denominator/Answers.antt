@@ -1,23 +1,24 @@
 use Rattle.std.proofs.Common.{◌≡◌, ap, sym, ◌∙◌, subst}
 use Rattle.std.specs.Prelude.{pos, neg_ℤ, Ok}
-use Rattle.hypergeometric.specs.Fraction.{Fraction, of_whole}
-use Rattle.hypergeometric.specs.ProperTerm.{IsNonzero}
-use Rattle.lin_form.specs.Forms.{form_of}
-use Rattle.lin_form.specs.FactorLists.{with_factor}
-use Rattle.lin_form.specs.ListOf.{list_of}
-use Rattle.poly_fraction.specs.FractionOf.{fraction_of}
-use Rattle.term_classes.specs.Forms.{content_of_form, primitive_form}
-use Rattle.term_classes.specs.Walk.{with_lists, few_factors, times_power, with_denominator}
-use Rattle.term_classes.proofs.FormValues.{content_not_zero}
-use Rattle.term_classes.proofs.WalkRows.{whole_nonzero}
-use Rattle.steps.proofs.AnswerLaws.{fault_answer}
 use Rattle.steps.specs.Answers.{HasCause}
 use Rattle.steps.specs.TermFaults.{term_cause}
+use Rattle.steps.proofs.AnswerLaws.{fault_answer}
+use Rattle.poly_fraction.specs.FractionOf.{fraction_of}
+use Rattle.hypergeometric.specs.Fraction.{Fraction, of_whole}
+use Rattle.hypergeometric.specs.ProperTerm.{IsNonzero}
+use Rattle.hypergeometric.specs.FactorLists.{with_factor}
+use Rattle.hypergeometric.specs.PrimitiveForm.{content_of_form, primitive_form}
+use Rattle.hypergeometric.proofs.Contents.{content_not_zero}
+use Rattle.hypergeometric.proofs.PrimitiveForms.{some_number}
+use Rattle.lin_form.specs.Forms.{form_of}
+use Rattle.lin_form.specs.ListOf.{list_of}
+use Rattle.term_classes.specs.Walk.{with_lists, few_factors, times_power, with_denominator}
+use Rattle.term_classes.proofs.WalkRows.{whole_nonzero}
 use Rattle.tree_polynomials.specs.Views.{fraction_value}
 use Rattle.term_walk.specs.Views.{gathered_of, with_factors}
 use Rattle.term_walk.proofs.CodePowers.{opposite_is, fraction_is}
 use Rattle.term_walk.proofs.LowestFields.{lowest_defined, power_lowest}
-use Rattle.term_walk.proofs.FormContents.{IsContent, content_found, content_fits, some_number}
+use Rattle.term_walk.proofs.FormContents.{IsContent, content_found, content_fits}
 use Rattle.term_walk.proofs.ScaleSteps.{denominator_given, more_fault, content_fault}
 use Rattle.term_walk.proofs.gathered.Gathered.with_denominator.Goals as goal
 
@@ -67,14 +68,14 @@ returns-in_err-scale c =
     subst (λ l. (few_factors (with_lists (list_of c.args.self.factors.up).factors (list_of c.args.self.factors.down).factors
     (with_factor l c.args.power (list_of c.args.self.factors.over).factors) (gathered_of c.args.self).guard (gathered_of c.args.self))).outcome
     ≡ Ok (with_factors (gathered_of c.args.self) c.in_ok-factors.factors)) found.primitive
-        (c.in_ok-factors.ensures.answers (gathered_of c.args.self)) in
+    (c.in_ok-factors.ensures.answers (gathered_of c.args.self)) in
     record {
       answers = fault_answer term_cause gathered_of (with_denominator c.args.at (form_of c.args.form) c.args.power (gathered_of c.args.self))
           c.from_residual-in_err-scale.result c.in_err-scale.field-0.0 c.from_residual-in_err-scale.ensures.1
           (content_fault c.args.at (form_of c.args.form) c.args.power (gathered_of c.args.self)
           (with_factors (gathered_of c.args.self) c.in_ok-factors.factors) c.in_err-scale.field-0.0 few
           (subst (λ f. HasCause (times_power c.args.at (fraction_value c.args.self.scale) f (neg_ℤ (pos c.args.power)))
-              (term_cause c.in_err-scale.field-0.0)) content
+          (term_cause c.in_err-scale.field-0.0)) content
           (subst (λ w. HasCause (times_power c.args.at (fraction_value c.args.self.scale) (fraction_value c.number_fraction-content.result) w)
           (term_cause c.in_err-scale.field-0.0))
           (opposite_is c.from-2.result c.args.power (record { sfits = c.from-2.type_inv }) c.from-2.ensures c.requires.small)
@@ -118,12 +119,12 @@ returns c =
     subst (λ l. (few_factors (with_lists (list_of c.args.self.factors.up).factors (list_of c.args.self.factors.down).factors
     (with_factor l c.args.power (list_of c.args.self.factors.over).factors) (gathered_of c.args.self).guard (gathered_of c.args.self))).outcome
     ≡ Ok (with_factors (gathered_of c.args.self) c.in_ok-factors.factors)) found.primitive
-        (c.in_ok-factors.ensures.answers (gathered_of c.args.self)) in
+    (c.in_ok-factors.ensures.answers (gathered_of c.args.self)) in
     record {
       answers = denominator_given c.args.at (form_of c.args.form) c.args.power (gathered_of c.args.self)
           (with_factors (gathered_of c.args.self) c.in_ok-factors.factors) (fraction_value c.in_ok-scale.scale) few
           (subst (λ f. (times_power c.args.at (fraction_value c.args.self.scale) f (neg_ℤ (pos c.args.power))).outcome
-              ≡ Ok (fraction_value c.in_ok-scale.scale))
+          ≡ Ok (fraction_value c.in_ok-scale.scale))
           content
           (subst (λ w. (times_power c.args.at (fraction_value c.args.self.scale) (fraction_value c.number_fraction-content.result) w).outcome
           ≡ Ok (fraction_value c.in_ok-scale.scale))

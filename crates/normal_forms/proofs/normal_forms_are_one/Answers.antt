@@ -1,5 +1,0 @@
-use Rattle.normal_forms.proofs.OneNormalForm.{one_normal_form}
-use Rattle.normal_forms.proofs.normal_forms_are_one.Goals as goal
-
-pub returns : goal.returns
-returns c = record { only = one_normal_form }

@@ -1,5 +1,0 @@
-use Rattle.normal_forms.proofs.NoMatches.{no_match}
-use Rattle.normal_forms.proofs.normal_forms_have_no_match.Goals as goal
-
-pub returns : goal.returns
-returns c = record { no_match = no_match }

@@ -1,5 +1,0 @@
-use Rattle.normal_forms.proofs.Quotients.{q_kept, r_kept, chains_here, chains_next, quotient_kept}
-use Rattle.normal_forms.proofs.normal_forms_keep_the_quotient.Goals as goal
-
-pub returns : goal.returns
-returns c = record { q = q_kept; r = r_kept; chains_here = chains_here; chains_next = chains_next; quotient = quotient_kept }

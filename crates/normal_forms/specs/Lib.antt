@@ -1,2 +1,0 @@
-pub mod NormalForm
-pub mod Quotients
