@@ -8,7 +8,7 @@ use Rattle.grammar.specs.Tree.{Tree}
 use Rattle.grammar.specs.Several.{a_term}
 use Rattle.grammar.specs.Reading.{HasTrees, Fault, IsFirstFault}
 use Rattle.grammar.proofs.OneOutcome.{one_contents, contents_or_fault}
-use Rattle.term_classes.specs.Refusals as classes
+use Rattle.steps.specs.TermFaults.{TermRefusal}
 use Rattle.steps.specs.Steps.{IsTooLargeAt}
 use Rattle.term_classes.specs.Walk.{class_of}
 use Rattle.ekhad_cli.specs.declared.words.Command.{Command}
@@ -30,7 +30,7 @@ no_fault : {text : List ℕ} → IsAnswerableTerm text → (fault : Fault) → �
 no_fault {text} a fault = contents_or_fault a_term text (a.tree ∷ []) [] fault a.read
 
 -- and the tree has one outcome
-not_refused : {text : List ℕ} (r : classes.Refusal) → IsAnswerableTerm text → ¬ IsRefusedBy text r
+not_refused : {text : List ℕ} (r : TermRefusal) → IsAnswerableTerm text → ¬ IsRefusedBy text r
 not_refused r a (u, read, refused) =
     let same : u ≡ a.tree = one_tree u a.tree read a.read in
     let outcome = ap (λ t. (class_of t).outcome) same in

@@ -105,8 +105,8 @@ IsUnbuilt text = (tree : Tree) × HasTrees a_term text (tree ∷ [])
 -- Why a command refuses the bytes that it reads: they are too many, or it read them all. A fault of the outside, or want of memory,
 -- may come whatever they are.
 abbrev pub IsCause : Command → List ℕ → Refusal → Type 0
-IsCause command bytes (refusal.Limit limit counted) =
-    (limit ≡ byte_limit command) × (most_bytes command < length bytes) × (counted ≡ suc (most_bytes command))
+IsCause command bytes (refusal.Limit name counted) =
+    (name ≡ byte_limit command) × (most_bytes command < length bytes) × (counted ≡ suc (most_bytes command))
 IsCause Gosper bytes EmptyInput = (length bytes ≤ most_bytes Gosper) × IsFirstFault a_term bytes empty_input
 IsCause Gosper bytes (refusal.Syntax kind at) = (length bytes ≤ most_bytes Gosper) × IsFirstFault a_term bytes (fault_of kind at)
 IsCause Gosper bytes (LiteralTooLarge at) = (length bytes ≤ most_bytes Gosper) × IsFirstFault a_term bytes (literal_too_large_at at)
