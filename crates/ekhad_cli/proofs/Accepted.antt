@@ -12,7 +12,9 @@ use Rattle.cert_checker.specs.declared.verdicts.Reason.{Reason}
 use Rattle.cert_checker.specs.declared.verdicts.Reason.TheVariants.{Shape, Normal, Carrier, Zero, Poles, Equation, Case, Same, Sums}
 use Rattle.cert_checker.proofs.RightDocuments.{equation_of_identity}
 use Rattle.ekhad_cli.specs.declared.status.Status.TheVariants.{Found}
-use Rattle.ekhad_cli.specs.Commands.{IsAnswerText, verdict_text, verdict_status, IsAlwaysAccepted}
+use Rattle.ekhad_cli.specs.Gosper.{IsAnswerText}
+use Rattle.ekhad_cli.specs.Check.{verdict_text, verdict_status}
+use Rattle.ekhad_cli.specs.Commands.{IsAlwaysAccepted}
 use Rattle.ekhad_cli.proofs.Complete.{document_cause}
 
 -- the document of a text passes each test, within bounds

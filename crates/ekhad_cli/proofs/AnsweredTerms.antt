@@ -27,7 +27,7 @@ use Rattle.term_classes.specs.Walk.{class_of}
 use Rattle.ekhad_cli.specs.Antidifference.{value_of, DividesAll, IsLeastAntidifference}
 use Rattle.ekhad_cli.specs.FirstRun.{IsSmall, polynomial_of, HasNumbers}
 use Rattle.ekhad_cli.specs.Answer.{coefficient, IsLeast, IsAntidifferenceOf}
-use Rattle.ekhad_cli.specs.Commands.{IsAnswerText}
+use Rattle.ekhad_cli.specs.Gosper.{IsAnswerText}
 use Rattle.ekhad_cli.proofs.EqualTerms.{telescopes_too}
 use Rattle.ekhad_cli.proofs.Polynomials.{polynomial_value_of, coefficient_of, polynomial_bounded, polynomial_length, polynomial_within}
 

@@ -18,7 +18,8 @@ use Rattle.ekhad_cli.specs.declared.refusal.Refusal.TheVariants.{Usage, EmptyInp
 use Rattle.ekhad_cli.specs.declared.refusal.Refusal.TheVariants as refusal
 use Rattle.ekhad_cli.specs.FirstRun.{IsFirstRunTerm}
 use Rattle.ekhad_cli.specs.Refusals.{IsOutside}
-use Rattle.ekhad_cli.specs.Commands.{most_bytes, AreWordsOf, IsRefusedBy, IsCause}
+use Rattle.ekhad_cli.specs.Gosper.{IsRefusedBy}
+use Rattle.ekhad_cli.specs.Commands.{most_bytes, AreWordsOf, IsCause}
 use Rattle.ekhad_cli.specs.Answerable.{IsAnswerableTerm, IsAnswerableDocument, IsAnswerable}
 use Rattle.ekhad_cli.specs.Run.{IsCaused}
 

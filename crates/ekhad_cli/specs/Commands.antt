@@ -1,31 +1,20 @@
 -- The commands: their words, what each writes of the bytes that it reads, and why it refuses them.
-use Rattle.std.specs.Prelude.{codes, ◌≡◌, ◌++◌, ◌<◌, ◌≤◌, ℕ, suc, List, [], ◌∷◌, length, Ok, Err}
-use Rattle.std.specs.Fmt.{decimal}
-use Rattle.steps.specs.Steps.{limit, IsTooLargeAt}
-use Rattle.steps.specs.TermFaults.{TermRefusal, improper}
-use Rattle.hypergeometric.specs.ProperTerm.{ProperTerm}
-use Rattle.document_text.specs.Document.{Document, document_text}
+use Rattle.std.specs.Prelude.{codes, ◌≡◌, ◌<◌, ◌≤◌, ℕ, suc, List, [], ◌∷◌, length}
+use Rattle.steps.specs.Steps.{limit}
+use Rattle.steps.specs.TermFaults.{improper}
 use Rattle.cert_text.specs.Readable.{Contents, IsTextOf, IsFirstBadLine, carried}
-use Rattle.cert_checker.specs.Checks.{HasCarrier, HasMultiplier, AreInBounds, IsVerdictOf, IsAccepted, ClaimTelescopes}
-use Rattle.cert_checker.specs.declared.verdicts.Verdict.{Verdict}
-use Rattle.cert_checker.specs.declared.verdicts.Verdict.TheVariants.{Accepted, Rejected}
-use Rattle.cert_checker.specs.declared.verdicts.Reason.{Reason}
-use Rattle.cert_checker.specs.declared.verdicts.Reason.TheVariants.{Shape, Normal, Carrier, Zero, Poles, Equation, Case, Same, Sums}
-use Rattle.grammar.specs.Tree.{Tree}
+use Rattle.cert_checker.specs.Checks.{HasCarrier, HasMultiplier, AreInBounds}
 use Rattle.grammar.specs.Several.{a_term}
-use Rattle.grammar.specs.Reading.{HasTrees, IsFirstFault, Fault, unexpected_at, unknown_name_at, unclosed_at, empty_input, not_ascii_at, nesting_at, literal_too_large_at}
-use Rattle.term_classes.specs.Walk.{class_of}
-use Rattle.ekhad_cli.specs.FirstRun.{IsFirstRunTerm}
-use Rattle.ekhad_cli.specs.Answer.{IsAnswerTo}
+use Rattle.grammar.specs.Reading.{IsFirstFault, empty_input, literal_too_large_at}
+use Rattle.ekhad_cli.specs.Gosper.{IsAnswerText, fault_of, IsRefusedBy, IsTermTooLarge, IsUnbuilt}
+use Rattle.ekhad_cli.specs.Check.{IsVerdictText}
 use Rattle.ekhad_cli.specs.Refusals.{IsOutside}
 use Rattle.ekhad_cli.specs.declared.words.Command.{Command}
 use Rattle.ekhad_cli.specs.declared.words.Command.TheVariants.{Gosper, Check}
 use Rattle.ekhad_cli.specs.declared.status.Status.{Status}
-use Rattle.ekhad_cli.specs.declared.status.Status.TheVariants.{Found, Empty}
+use Rattle.ekhad_cli.specs.declared.status.Status.TheVariants.{Found}
 use Rattle.ekhad_cli.specs.declared.refusal.RunLimit.{RunLimit}
 use Rattle.ekhad_cli.specs.declared.refusal.RunLimit.TheVariants.{InputBytes, DocumentBytes}
-use Rattle.ekhad_cli.specs.declared.refusal.SyntaxKind.{SyntaxKind}
-use Rattle.ekhad_cli.specs.declared.refusal.SyntaxKind.TheVariants.{Unexpected, UnknownName, Unclosed, NotAscii, Nesting}
 use Rattle.ekhad_cli.specs.declared.refusal.Refusal.{Refusal}
 use Rattle.ekhad_cli.specs.declared.refusal.Refusal.TheVariants.{Usage, EmptyInput, Line, LiteralTooLarge, TermTooLarge, ClaimTooLarge, Improper, TermLimit, Unbuilt, Memory, ReadFault, WriteFault}
 use Rattle.ekhad_cli.specs.declared.refusal.Refusal.TheVariants as refusal
@@ -44,63 +33,10 @@ abbrev pub byte_limit : Command → RunLimit
 byte_limit Gosper = InputBytes
 byte_limit Check = DocumentBytes
 
--- the text of a document that answers the text of a term
-abbrev pub IsAnswerText : List ℕ → List ℕ → Type 0
-IsAnswerText term text = (d : Document) × IsAnswerTo term d × (text ≡ document_text d)
-
-abbrev pub reason_word : Reason → List ℕ
-reason_word Shape = codes "shape"
-reason_word Normal = codes "normal"
-reason_word Carrier = codes "carrier"
-reason_word Zero = codes "zero"
-reason_word Poles = codes "poles"
-reason_word Equation = codes "equation"
-reason_word Case = codes "case"
-reason_word Same = codes "same"
-reason_word Sums = codes "sums"
-
-abbrev pub verdict_text : Verdict → List ℕ
-verdict_text (Accepted unchecked) = codes "accepted\n"
-verdict_text (Rejected claim reason) = codes "rejected " ++ decimal claim ++ codes " " ++ reason_word reason ++ codes "\n"
-
-abbrev pub verdict_status : Verdict → Status
-verdict_status (Accepted unchecked) = Found
-verdict_status (Rejected claim reason) = Empty
-
--- The bytes are a document, and the text is that of its verdict. An accepted document telescopes its own term.
-pub record IsVerdictText (bytes : List ℕ) (status : Status) (text : List ℕ) : Type 0 where
-  pub document : Contents
-  pub read : IsTextOf bytes document
-  pub verdict : Verdict
-  pub exact : IsVerdictOf document verdict
-  pub telescopes : IsAccepted verdict → ClaimTelescopes document
-  pub status_is : status ≡ verdict_status verdict
-  pub text_is : text ≡ verdict_text verdict
-
 -- what a command writes of the bytes that it has read, by the status with which it ends
 abbrev pub IsOutput : Command → List ℕ → Status → List ℕ → Type 0
 IsOutput Gosper bytes status text = (status ≡ Found) × IsAnswerText bytes text
 IsOutput Check bytes status text = IsVerdictText bytes status text
-
-abbrev pub fault_of : SyntaxKind → ℕ → Fault
-fault_of Unexpected at = unexpected_at at
-fault_of UnknownName at = unknown_name_at at
-fault_of Unclosed at = unclosed_at at
-fault_of NotAscii at = not_ascii_at at
-fault_of Nesting at = nesting_at at
-
--- the walk over the tree of the text of a term ends with this refusal
-abbrev pub IsRefusedBy : List ℕ → TermRefusal → Type 0
-IsRefusedBy text refusal = (tree : Tree) × HasTrees a_term text (tree ∷ []) × ((class_of tree).outcome ≡ Err refusal)
-
--- an operation of the node at this place isn't in bounds in the walk over the tree of the text
-abbrev pub IsTermTooLarge : List ℕ → ℕ → Type 0
-IsTermTooLarge text at = (tree : Tree) × HasTrees a_term text (tree ∷ []) × IsTooLargeAt (class_of tree) at
-
--- the class of the tree of the text is none of the terms that are answered today
-abbrev pub IsUnbuilt : List ℕ → Type 0
-IsUnbuilt text = (tree : Tree) × HasTrees a_term text (tree ∷ [])
-    × ((f : ProperTerm) × ((class_of tree).outcome ≡ Ok f) × (¬ IsFirstRunTerm f))
 
 -- Why a command refuses the bytes that it reads: they are too many, or it read them all. A fault of the outside, or want of memory,
 -- may come whatever they are.

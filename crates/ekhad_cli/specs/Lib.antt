@@ -1,6 +1,8 @@
 pub mod FirstRun
 pub mod Antidifference
 pub mod Answer
+pub mod Gosper
+pub mod Check
 pub mod Commands
 pub mod Refusals
 pub mod Run

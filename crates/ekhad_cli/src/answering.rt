@@ -9,7 +9,8 @@ ghost use Rattle.term_classes.specs.Walk.{class_of};
 ghost use Rattle.steps.specs.Answers.{HasCause};
 ghost use Rattle.steps.specs.TermFaults.{term_cause};
 ghost use Rattle.ekhad_cli.specs.Refusals.{IsInside};
-ghost use Rattle.ekhad_cli.specs.Commands.{most_bytes, IsAnswerText, IsCause};
+ghost use Rattle.ekhad_cli.specs.Gosper.{IsAnswerText};
+ghost use Rattle.ekhad_cli.specs.Commands.{most_bytes, IsCause};
 ghost use Rattle.ekhad_cli.specs.Converted.{refusal_of_text, refusal_of_term};
 
 use crate::gosper::gosper;

@@ -2,7 +2,8 @@
 
 ghost use Rattle.std.specs.Prelude.{◌≡◌, ◌≤◌, length, IfOk, IfErr};
 ghost use Rattle.ekhad_cli.specs.Refusals.{IsInside};
-ghost use Rattle.ekhad_cli.specs.Commands.{reason_word, verdict_text, verdict_status, most_bytes, IsVerdictText, IsCause};
+ghost use Rattle.ekhad_cli.specs.Check.{reason_word, verdict_text, verdict_status, IsVerdictText};
+ghost use Rattle.ekhad_cli.specs.Commands.{most_bytes, IsCause};
 ghost use Rattle.ekhad_cli.specs.Converted.{refusal_of_document, IsRefusalOfClaim};
 
 use crate::output::Output;

@@ -3,7 +3,8 @@
 ghost use Rattle.std.specs.Prelude.{ℕ, List, Some};
 ghost use Rattle.ekhad_cli.specs.declared.words.Command.{Command};
 ghost use Rattle.ekhad_cli.specs.declared.refusal.Refusal.{Refusal};
-ghost use Rattle.ekhad_cli.specs.Commands.{AreWordsOf, IsAnswerText, IsCause, IsAlwaysAccepted};
+ghost use Rattle.ekhad_cli.specs.Gosper.{IsAnswerText};
+ghost use Rattle.ekhad_cli.specs.Commands.{AreWordsOf, IsCause, IsAlwaysAccepted};
 ghost use Rattle.ekhad_cli.specs.Refusals.{IsOutside};
 ghost use Rattle.ekhad_cli.specs.Answerable.{IsAnswerable};
 ghost use Rattle.ekhad_cli.specs.Run.{IsCaused};

@@ -1,16 +1,18 @@
 //! The program as a library: from the words and the bytes that come in to the bytes that go out.
 //!
 //! Input: the words after the program's name, a source, two sinks. Output: a `Status`, by `run`.
-//! What an answer is stands in `specs/Answer.antt`, what each command writes and why it refuses in `specs/Commands.antt`, the lines of
-//! the refusals in `specs/Refusals.antt`, what a run claims of its outputs in `specs/Run.antt`.
+//! What an answer is stands in `specs/Answer.antt`, what each command writes in `specs/Gosper.antt` and `Check.antt`, why it refuses in
+//! `Commands.antt`, the lines of the refusals in `Refusals.antt`, what a run claims of its outputs in `Run.antt`.
 //! Read `words.rt` (the commands), `status.rt`, `refusal.rt` and `lines.rt` (how a run ends, and what it then says), `small_terms.rt`
 //! (the terms that are answered), `antidifference.rt` (the numbers of the claim), `gosper.rt` (its document), `answering.rt` (from a text to the
-//! text of its document), `checking.rt` (the verdict on a document), `program.rt`; `laws.rt` has what is so of the commands together.
+//! text of its document), `checking.rt` (the verdict on a document), `program.rt`, `entry.rt` (the program but for its streams);
+//! `laws.rt` has what is so of the commands together.
 #![tactic(auto)]
 
 mod answering;
 mod antidifference;
 mod checking;
+mod entry;
 mod gosper;
 mod laws;
 mod lines;
@@ -27,6 +29,7 @@ mod test_runs;
 mod tests;
 mod words;
 
+pub use entry::main;
 pub use laws::{answerable_texts_are_answered, answers_are_accepted};
 pub use lines::refuse;
 pub use program::run;

@@ -124,6 +124,10 @@ fn terms_that_are_not_proper(rt: HostRuntime) {
         ("2^(n*k)", "ekhad: improper: reason 5 at 4\n"),
         ("n!+k!", "ekhad: improper: reason 6 at 2\n"),
         ("k*0", "ekhad: improper: reason 7 at 2\n"),
+        // a power, a factor of one and a summand that are no polynomial and no constant
+        ("((n/2)^2)^k", "ekhad: improper: reason 4 at 9\n"),
+        ("(2^(k!))^k", "ekhad: improper: reason 4 at 8\n"),
+        ("2^(k!)+1", "ekhad: improper: reason 6 at 6\n"),
     ];
     for (text, line) in rows {
         let refused = refuses(

@@ -5,8 +5,8 @@ use Rattle.grammar.specs.Token.{digits, comma, semicolon, Placed}
 use Rattle.grammar.specs.Grammar.{Sum, product_alone, power_alone, postfix_alone, atom_alone, the_k, sum_text}
 use Rattle.grammar.specs.Bounds.{Bound, plain_bound, minus_bound, Bounds, bound_alone, bound_more, bound_text, bounds_text, count}
 use Rattle.grammar.specs.Several.{term_alone, term_more, terms_text, Derivation, only_terms, with_bounds, derivation_text, Kind, a_term, a_pair, a_boxed, a_recurrence, is_whole}
-use Rattle.grammar.specs.State.{State}
-use Rattle.grammar.specs.States.{Before, BeforeBound, BoundState, wants_bound, wants_digits, has_bound, States, in_term, in_bounds, with_term, with_bound, before_text, before_bound_text, bound_state_text, states_text, GoesOnBounds, GoesOn}
+use Rattle.grammar.proofs.State.{State}
+use Rattle.grammar.proofs.States.{Before, BeforeBound, BoundState, wants_bound, wants_digits, has_bound, States, in_term, in_bounds, with_term, with_bound, before_text, before_bound_text, bound_state_text, states_text, GoesOnBounds, GoesOn}
 use Rattle.grammar.proofs.Prefixes.{completion}
 use Rattle.grammar.proofs.WholeTexts.{differ}
 

@@ -13,7 +13,7 @@ use Rattle.grammar.specs.Token.{Token, digits, name_n, name_k, name_binomial, op
 use Rattle.grammar.specs.Tokens.{Front, at_end, token, flawed, strange, not_ascii, unknown_name, literal_too_large, number_token, name_token, symbol_token, front, past_spaces, next_front}
 use Rattle.grammar.specs.Several.{Derivation, derivation_trees, derivation_bounds, Kind}
 use Rattle.grammar.specs.Reading.{Fault, AreFitting, IsFirstFault, HasContents}
-use Rattle.grammar.specs.States.{States, start, step_terms, run_terms, finished_terms}
+use Rattle.grammar.proofs.States.{States, start, step_terms, run_terms, finished_terms}
 use Rattle.grammar.proofs.Fitting.{run_snoc, fitting_start, fitting_more, fault_flawed, fault_nesting, fault_unexpected, fault_end, contents_at_end}
 
 -- a token has a byte at least

@@ -5,8 +5,8 @@ use Rattle.grammar.specs.Token.{Token, digits, name_n, name_k, name_binomial, pl
 use Rattle.grammar.specs.Grammar.{Sum}
 use Rattle.grammar.specs.Bounds.{Bound, count}
 use Rattle.grammar.specs.Several.{Terms, terms_text, Kind}
-use Rattle.grammar.specs.State.{State, begin, step, finished}
-use Rattle.grammar.specs.States.{Before, BeforeBound, BoundState, wants_bound, wants_digits, has_bound, States, in_term, in_bounds, start, with_term, with_bound, is_open, takes_bounds, at_semicolon, step_bounds, step_terms, run_terms, before_text, states_text, GoesOn}
+use Rattle.grammar.proofs.State.{State, begin, step, finished}
+use Rattle.grammar.proofs.States.{Before, BeforeBound, BoundState, wants_bound, wants_digits, has_bound, States, in_term, in_bounds, start, with_term, with_bound, is_open, takes_bounds, at_semicolon, step_bounds, step_terms, run_terms, before_text, states_text, GoesOn}
 use Rattle.grammar.proofs.Prefixes.{some_of, none_some, step_grows, finished_text}
 use Rattle.grammar.proofs.Completions.{with_term_text, with_bound_text}
 

@@ -1,6 +1,6 @@
 -- Some texts and what reading them gives.
 use Rattle.std.proofs.Common.{◌≡◌, ℕ, Bool, true, false, List, [], ◌∷◌, ◌++◌, refl, ap, sym, ◌∙◌, inr, length}
-use Rattle.std.specs.Prelude.{codes, nat_lt, if◌then◌else◌}
+use Rattle.std.specs.Prelude.{codes, nat_lt, pos, if◌then◌else◌}
 use Rattle.grammar.specs.Token.{digits, name_n, name_k, name_binomial, minus, star, slash, caret, bang, opening, closing, comma, semicolon, Placed, with_token, IsNested64}
 use Rattle.grammar.specs.Tree.{tree, literal, variable_n, variable_k, sum_of, product_of, power_of, binomial_of, no_parts, part}
 use Rattle.grammar.specs.Grammar.{product_alone, minus_product, power_alone, power_more, postfix_alone, raised, atom_alone, number, the_n, the_k, choose}
@@ -28,7 +28,7 @@ nested_where places (t ∷ ts) e = go (nat_lt (length places) 64) refl e (nested
 abbrev square_tokens : List Placed
 square_tokens = (0, name_k) ∷ (1, caret) ∷ (2, digits 2) ∷ []
 
-square : HasTrees a_term (codes "k^2") ((tree 1 (power_of (tree 0 variable_k) (tree 2 (literal 2)))) ∷ [])
+square : HasTrees a_term (codes "k^2") ((tree 1 (power_of (tree 0 variable_k) (tree 2 (literal (pos 2))))) ∷ [])
 square = (
   square_tokens,
   3,
@@ -47,7 +47,7 @@ square = (
 abbrev halved_tokens : List Placed
 halved_tokens = (0, minus) ∷ (1, name_k) ∷ (2, star) ∷ (3, name_n) ∷ (4, slash) ∷ (5, digits 2) ∷ []
 
-halved : HasTrees a_term (codes "-k*n/2") ((tree 0 (sum_of (part true (tree 2 (product_of (part false (tree 1 variable_k) (part false (tree 3 variable_n) (part true (tree 5 (literal 2)) no_parts))))) no_parts))) ∷ [])
+halved : HasTrees a_term (codes "-k*n/2") ((tree 0 (sum_of (part true (tree 2 (product_of (part false (tree 1 variable_k) (part false (tree 3 variable_n) (part true (tree 5 (literal (pos 2))) no_parts))))) no_parts))) ∷ [])
 halved = (
   halved_tokens,
   6,

@@ -1,3 +1,5 @@
+pub mod State
+pub mod States
 pub mod Runs
 pub mod Prefixes
 pub mod Texts

@@ -3,9 +3,9 @@ use Rattle.std.proofs.Common.{◌≡◌, ℕ, true, List, [], ◌∷◌, ◌++�
 use Rattle.std.specs.Prelude.{if◌then◌else◌}
 use Rattle.grammar.specs.Token.{Token, digits, name_n, name_k, name_binomial, plus, minus, star, slash, caret, bang, opening, closing, comma, semicolon, Placed}
 use Rattle.grammar.specs.Grammar.{Sum, sum_text}
-use Rattle.grammar.specs.State.{State, wants_atom, wants_opening, has_power, begin, step, run}
+use Rattle.grammar.proofs.State.{State, wants_atom, wants_opening, has_power, begin, step, run}
 use Rattle.grammar.specs.Several.{Terms, term_alone, term_more, terms_text, Kind}
-use Rattle.grammar.specs.States.{Before, States, in_term, in_bounds, wants_bound, start, with_term, is_open, takes_bounds, at_semicolon, step_terms, run_terms}
+use Rattle.grammar.proofs.States.{Before, States, in_term, in_bounds, wants_bound, start, with_term, is_open, takes_bounds, at_semicolon, step_terms, run_terms}
 use Rattle.grammar.proofs.Runs.{ended, grammar_runs, finished_ended}
 use Rattle.grammar.proofs.Prefixes.{none_some}
 use Rattle.grammar.proofs.Texts.{sum_in_front}

@@ -4,8 +4,8 @@ use Rattle.std.specs.Prelude.{is_some, option_and_then, if◌then◌else◌}
 use Rattle.grammar.specs.Token.{semicolon, Placed}
 use Rattle.grammar.specs.Grammar.{Sum}
 use Rattle.grammar.specs.Several.{terms_text, Derivation, only_terms, with_bounds, derivation_text, Kind, is_whole, Derives, Continues}
-use Rattle.grammar.specs.State.{finished}
-use Rattle.grammar.specs.States.{wants_bound, wants_digits, has_bound, States, in_term, in_bounds, start, with_term, with_bound, step_terms, run_terms, where_whole, finished_terms, before_text, states_text}
+use Rattle.grammar.proofs.State.{finished}
+use Rattle.grammar.proofs.States.{wants_bound, wants_digits, has_bound, States, in_term, in_bounds, start, with_term, with_bound, step_terms, run_terms, where_whole, finished_terms, before_text, states_text}
 use Rattle.grammar.proofs.Prefixes.{some_of, none_some, finished_text}
 use Rattle.grammar.proofs.WholeTexts.{differ, derivation_read}
 use Rattle.grammar.proofs.Follows.{run_follows, goes_on}

@@ -5,8 +5,8 @@ use Rattle.std.proofs.lemmas.Bool.{eqb-true, lt-ltb}
 use Rattle.grammar.specs.Token.{comma, semicolon, Placed}
 use Rattle.grammar.specs.Bounds.{Bound, plain_bound, minus_bound, Bounds, bound_alone, bound_more, bound_text, bounds_text, count}
 use Rattle.grammar.specs.Several.{Terms, term_alone, term_more, Derivation, only_terms, with_bounds, derivation_text, Kind, a_term, a_pair, a_boxed, a_recurrence, is_whole}
-use Rattle.grammar.specs.States.{BeforeBound, wants_bound, has_bound, States, in_term, in_bounds, start, with_term, with_bound, is_open, takes_bounds, at_semicolon, at_comma, step_terms, run_terms, where_whole, finished_terms}
-use Rattle.grammar.specs.State.{begin}
+use Rattle.grammar.proofs.States.{BeforeBound, wants_bound, has_bound, States, in_term, in_bounds, start, with_term, with_bound, is_open, takes_bounds, at_semicolon, at_comma, step_terms, run_terms, where_whole, finished_terms}
+use Rattle.grammar.proofs.State.{begin}
 use Rattle.grammar.proofs.Runs.{ended, finished_ended}
 use Rattle.grammar.proofs.Several.{after, last_term, before_last, whole_again, StaysOpen, terms_run}
 

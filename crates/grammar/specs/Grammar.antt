@@ -5,7 +5,7 @@
 --   postfix = atom | atom "!"
 --   atom    = digits | "n" | "k" | "(" sum ")" | "binomial" "(" sum "," sum ")"
 -- Of a text's two spellings `x_text s rest` is its tokens in front of `rest`.
-use Rattle.std.specs.Prelude.{ℕ, Bool, true, false, List, ◌∷◌}
+use Rattle.std.specs.Prelude.{ℕ, Bool, true, false, pos, List, ◌∷◌}
 use Rattle.grammar.specs.Token.{digits, name_n, name_k, name_binomial, minus, caret, bang, opening, closing, comma, Placed, sum_sign, product_sign}
 use Rattle.grammar.specs.Tree.{Tree, tree, literal, variable_n, variable_k, sum_of, product_of, power_of, factorial_of, binomial_of, Parts, no_parts, part}
 
@@ -103,7 +103,7 @@ abbrev mutual
   postfix_tree (factorial_at a at) = tree at (factorial_of (atom_tree a))
 
   pub atom_tree : Atom → Tree
-  atom_tree (number at value) = tree at (literal value)
+  atom_tree (number at value) = tree at (literal (pos value))
   atom_tree (the_n at) = tree at variable_n
   atom_tree (the_k at) = tree at variable_k
   atom_tree (bracket at s close) = sum_tree s

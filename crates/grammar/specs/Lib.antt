@@ -5,5 +5,3 @@ pub mod Bounds
 pub mod Several
 pub mod Tokens
 pub mod Reading
-pub mod State
-pub mod States

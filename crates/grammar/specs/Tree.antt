@@ -1,12 +1,12 @@
 -- Trees of terms, each node with its place in the text. Parentheses leave no node.
-use Rattle.std.specs.Prelude.{ℕ, Bool}
+use Rattle.std.specs.Prelude.{ℕ, Bool, ℤ}
 
 mutual
   pub data Tree : Type 0 where
     tree : ℕ → Node → Tree
 
   pub data Node : Type 0 where
-    literal : ℕ → Node
+    literal : ℤ → Node
     variable_n : Node
     variable_k : Node
     sum_of : Parts → Node

@@ -34,7 +34,7 @@ impl Cursor {
         ensures not_zero { result.value ≢ pos 0 }
     {
         if self.left == 0 {
-            return Whole { value: 1 };
+            return Whole::ONE;
         }
         Whole {
             value: self.at as i128,

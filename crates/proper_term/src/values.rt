@@ -60,7 +60,7 @@ fn zero() -> Frac<Whole>
     ensures top { (whole_fraction (fraction_of result)).top ≡ pos 0 }
     ensures bottom { (whole_fraction (fraction_of result)).bottom ≡ pos 1 }
 {
-    Frac::new(Whole { value: 0 }, Whole { value: 1 }).unwrap()
+    Frac::new(Whole::ZERO, Whole::ONE).unwrap()
 }
 
 // The value where no factorial is that of a negative number. A polynomial that is 0 there makes it 0.
@@ -158,7 +158,7 @@ fn times_factors(
     ensures run { GivesRun fraction_of (whole_fraction (fraction_of running.now)) (of_whole poly.value ∷ base_power (term_of term.now).n_base point.n
         ∷ base_power (term_of term.now).k_base point.k ∷ divisors (term_of term.now).over (point_of point)) result }
 {
-    let running = times(alloc, running, poly, Whole { value: 1 })?;
+    let running = times(alloc, running, poly, Whole::ONE)?;
     let running = times_n_power(alloc, &running, term, point)?;
     let running = times_k_power(alloc, &running, term, point)?;
     over_divisors(alloc, running, term, point)

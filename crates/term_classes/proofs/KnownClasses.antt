@@ -22,7 +22,7 @@ abbrev k_at : ℕ → Tree
 k_at at = tree at variable_k
 
 abbrev number_at : ℕ → ℕ → Tree
-number_at at c = tree at (literal c)
+number_at at c = tree at (literal (pos c))
 
 abbrev both : Tree → Bool → Tree → Parts
 both l turned m = part false l (part turned m no_parts)

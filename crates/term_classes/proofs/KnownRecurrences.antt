@@ -17,7 +17,7 @@ abbrev k_at : ℕ → Tree
 k_at at = tree at variable_k
 
 abbrev number_at : ℕ → ℕ → Tree
-number_at at c = tree at (literal c)
+number_at at c = tree at (literal (pos c))
 
 abbrev poly_n : Meaning
 poly_n = listed (number (pos 0) ∷ number (pos 1) ∷ [])

@@ -25,7 +25,7 @@ cubic = listed (listed [] ∷ c (pos 1) ∷ c (negsuc 2) ∷ c (pos 2) ∷ [])
 
 -- `k^2`
 abbrev tree_of_square : Tree
-tree_of_square = tree 1 (power_of (tree 0 variable_k) (tree 2 (literal 2)))
+tree_of_square = tree 1 (power_of (tree 0 variable_k) (tree 2 (literal (pos 2))))
 
 square_value : (p : Point) → term_value tree_of_square p ≡ of_whole (pos 1 *ℤ poly_value square p)
 square_value p = ap of_whole (ring_z (p.n ∷ p.k ∷ []) (search reading_z depth 40 fits 20000) refl)

@@ -11,7 +11,7 @@ abbrev at : Node → Tree
 at node = tree 0 node
 
 abbrev lit : ℕ → Tree
-lit c = at (literal c)
+lit c = at (literal (pos c))
 
 abbrev two_parts : Bool → Tree → Tree → Parts
 two_parts turned s t = part false s (part turned t no_parts)

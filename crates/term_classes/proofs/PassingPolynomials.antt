@@ -63,7 +63,7 @@ mutual
   tree_belongs (tree at node) p e = node_belongs node p e
 
   pub node_belongs : (node : Node) (p : Meaning) → node_polynomial node ≡ Some p → Belongs p
-  node_belongs (literal c) p e = subst Belongs (same_Some (in_n_and_k.whole (pos c)) p e) (closed.whole (pos c))
+  node_belongs (literal c) p e = subst Belongs (same_Some (in_n_and_k.whole c) p e) (closed.whole c)
   node_belongs variable_n p e = subst Belongs (same_Some poly_n p e) refl
   node_belongs variable_k p e = subst Belongs (same_Some poly_k p e) refl
   node_belongs (sum_of parts) p e = sum_belongs parts p e

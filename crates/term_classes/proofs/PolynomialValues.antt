@@ -21,8 +21,8 @@ mutual
 
   pub node_has : (node : Node) (poly : Meaning) → node_polynomial node ≡ Some poly → NodeIsPower poly node
   node_has (literal c) poly e w p =
-      same (ap (λ z. whole_power (of_whole z) w) (sym ((keeps p).whole (pos c)))
-      ∙ ap (λ q. whole_power (of_whole (poly_value q p)) w) (same_Some (in_n_and_k.whole (pos c)) poly e))
+      same (ap (λ z. whole_power (of_whole z) w) (sym ((keeps p).whole c))
+      ∙ ap (λ q. whole_power (of_whole (poly_value q p)) w) (same_Some (in_n_and_k.whole c) poly e))
   node_has variable_n poly e w p =
       same (ap (λ z. whole_power (of_whole z) w) (sym (variable_n_value p))
       ∙ ap (λ q. whole_power (of_whole (poly_value q p)) w) (same_Some poly_n poly e))

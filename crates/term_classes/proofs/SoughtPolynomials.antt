@@ -93,7 +93,7 @@ mutual
   sought_is (tree at node) p e = node_sought_is at node p e
 
   pub node_sought_is : (at : ℕ) (node : Node) (p : Option Meaning) → (node_polynomial_sought at node).outcome ≡ Ok p → node_polynomial node ≡ p
-  node_sought_is at (literal c) p e = same_Ok (Some (in_n_and_k.whole (pos c))) p e
+  node_sought_is at (literal c) p e = same_Ok (Some (in_n_and_k.whole c)) p e
   node_sought_is at variable_n p e = same_Ok (Some poly_n) p e
   node_sought_is at variable_k p e = same_Ok (Some poly_k) p e
   node_sought_is at (sum_of parts) p e =

@@ -52,7 +52,7 @@ abbrev mutual
   polynomial_sought (tree at node) = node_polynomial_sought at node
 
   pub node_polynomial_sought : ℕ → Node → TermSteps (Option Meaning)
-  node_polynomial_sought at (literal c) = gives (Some (in_n_and_k.whole (pos c)))
+  node_polynomial_sought at (literal c) = gives (Some (in_n_and_k.whole c))
   node_polynomial_sought at variable_n = gives (Some poly_n)
   node_polynomial_sought at variable_k = gives (Some poly_k)
   node_polynomial_sought at (sum_of parts) =

@@ -32,7 +32,7 @@ abbrev mutual
   tree_polynomial (tree at node) = node_polynomial node
 
   pub node_polynomial : Node → Option Meaning
-  node_polynomial (literal c) = Some (in_n_and_k.whole (pos c))
+  node_polynomial (literal c) = Some (in_n_and_k.whole c)
   node_polynomial variable_n = Some poly_n
   node_polynomial variable_k = Some poly_k
   node_polynomial (sum_of parts) = sum_polynomial parts

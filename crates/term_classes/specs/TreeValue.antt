@@ -40,7 +40,7 @@ abbrev mutual
   tree_value (tree at node) w p = node_value node w p
 
   pub node_value : Node → ℤ → Point → Fraction
-  node_value (literal c) w p = whole_power (of_whole (pos c)) w
+  node_value (literal c) w p = whole_power (of_whole c) w
   node_value variable_n w p = whole_power (of_whole p.n) w
   node_value variable_k w p = whole_power (of_whole p.k) w
   node_value (sum_of (part true t no_parts)) w p = fraction_product (whole_power (of_whole (negsuc 0)) w) (tree_value t w p)

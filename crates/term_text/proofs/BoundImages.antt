@@ -5,7 +5,7 @@ use Rattle.std.proofs.lemmas.List.{length-append}
 use Rattle.grammar.specs.Token as t
 use Rattle.grammar.specs.Bounds.{Bound, plain_bound, minus_bound, Bounds, bound_alone, bound_more, bound_text, bounds_text, bound_value, bounds_values, count}
 use Rattle.grammar.specs.Several.{Terms, with_bounds}
-use Rattle.grammar.specs.States as m
+use Rattle.grammar.proofs.States as m
 use Rattle.grammar.proofs.SmallLiterals.{AreSmall, past_bounds}
 use Rattle.term_text.specs.Code.BoundSteps.{step_bounds, next_bound, whole_bounds}
 use Rattle.term_text.specs.Code.SeveralSteps.{in_bounds, boxed_terms}

@@ -4,7 +4,7 @@ use Rattle.term_text.specs.declared.state.Opened.TheVariants.{Lower}
 use Rattle.std.proofs.Common.{◌≡◌, ℕ, Bool, true, false, List, [], ◌∷◌, ◌++◌, Option, Some, None, refl, ap, ◌∙◌}
 use Rattle.grammar.specs.Token as t
 use Rattle.grammar.specs.Grammar.{Sum, product_alone, minus_product, product_more, sum_place, Product, power_alone, power_more, product_place, Power, postfix_alone, raised, atom_alone, factorial_at, Atom, number, the_n, the_k, bracket, choose}
-use Rattle.grammar.specs.State as g
+use Rattle.grammar.proofs.State as g
 use Rattle.term_text.specs.declared.ast.Ast.{Ast}
 use Rattle.term_text.specs.declared.ast.Part.{Part}
 use Rattle.term_text.specs.declared.ast.Node.TheVariants as node

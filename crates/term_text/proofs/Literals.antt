@@ -4,7 +4,7 @@ use Rattle.std.proofs.Math.Seq.{drop-cons}
 use Rattle.std.proofs.lemmas.Bool.Decides.{nat_tests}
 use Rattle.std.proofs.lemmas.Int.Digits.{digits_value_more}
 use Rattle.std.proofs.lemmas.Str.Parse.{digits_value-take-le, digit_at}
-use Rattle.std.specs.Prelude.{nat_lt, pos, unsigned_abs, if◌then◌else◌}
+use Rattle.std.specs.Prelude.{nat_lt, pos, if◌then◌else◌}
 use Rattle.std.specs.List.{prefix_len}
 use Rattle.std.specs.Str.Parse.{digits_value, AllDigits}
 use Rattle.std.specs.Char.{digit_value, is_ascii_digit, is_ascii_alphabetic, is_ascii_alphanumeric}
@@ -86,9 +86,6 @@ whole_value value h = go (nat_lt value (2 ^ 127)) refl
     go : (test : Bool) (e : nat_lt value (2 ^ 127) ≡ test) → (whole_where value test e).value ≡ pos value
     go true e = refl
     go false e = absurd (omega (arith, ltb-false value (2 ^ 127) e, h))
-
-pub value_is : (value : ℕ) → value < 2 ^ 127 → unsigned_abs (whole_of value).value ≡ value
-value_is value h = ap unsigned_abs (whole_value value h)
 
 -- the token that digits make
 pub number_is : (ds : List ℕ) (value : ℕ) (w : Whole) → Some value ≡ below_limit (digits_value 10 ds) → w ≡ whole_of value → Token (Digits w) (length ds) ≡ front_image (number_token ds)

@@ -5,8 +5,8 @@ use Rattle.grammar.specs.Token as t
 use Rattle.grammar.specs.Grammar.{Sum, Power}
 use Rattle.grammar.specs.Several.{Terms, term_alone, term_more, Derivation, only_terms}
 use Rattle.grammar.specs.Several as g
-use Rattle.grammar.specs.State as s
-use Rattle.grammar.specs.States as m
+use Rattle.grammar.proofs.State as s
+use Rattle.grammar.proofs.States as m
 use Rattle.term_text.specs.declared.ast.Ast.{Ast}
 use Rattle.term_text.specs.declared.state.Outer.{Outer}
 use Rattle.term_text.specs.declared.state.State.{State}

@@ -11,7 +11,7 @@ use Rattle.term_text.specs.declared.ast.Node.{Node}
 use Rattle.term_text.specs.View.{tree_of, node_of, part_of, parts_of}
 use Rattle.term_text.specs.Code.Steps.{part_at}
 use Rattle.term_text.specs.Code.Image.{sum_ast, sum_part_asts, product_ast, product_part_asts, power_ast, postfix_ast, atom_ast}
-use Rattle.term_text.proofs.Literals.{value_is}
+use Rattle.term_text.proofs.Literals.{whole_value}
 use Rattle.term_text.proofs.Views.{node_of-literal, node_of-n, node_of-k, node_of-sum, node_of-product, node_of-pow, node_of-factorial, node_of-binomial, tree_of-at, part_of-at}
 
 one_part : (turned : Bool) (a : Ast) (rest : List Part) → parts_of (record { turned = turned; ast = a } ∷ rest) ≡ d.part turned (tree_of a) (parts_of rest)
@@ -72,7 +72,7 @@ mutual
   tree_of_postfix (factorial_at a at) rest h = at_node at _ _ (node_of-factorial (atom_ast a) ∙ ap d.factorial_of (tree_of_atom a ((at, bang) ∷ rest) h))
 
   tree_of_atom : (a : Atom) (rest : List Placed) → AreSmall (atom_text a rest) → tree_of (atom_ast a) ≡ atom_tree a
-  tree_of_atom (number at value) rest h = at_node at _ _ (node_of-literal (whole_of value) ∙ ap d.literal (value_is value h.0))
+  tree_of_atom (number at value) rest h = at_node at _ _ (node_of-literal (whole_of value) ∙ ap d.literal (whole_value value h.0))
   tree_of_atom (the_n at) rest h = at_node at _ _ node_of-n
   tree_of_atom (the_k at) rest h = at_node at _ _ node_of-k
   tree_of_atom (bracket at s close) rest h = tree_of_sum s ((close, closing) ∷ rest) h.1

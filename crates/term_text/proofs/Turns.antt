@@ -8,7 +8,7 @@ use Rattle.grammar.specs.Tokens as k
 use Rattle.grammar.specs.Reading as r
 use Rattle.grammar.specs.Several.{Derivation, derivation_trees}
 use Rattle.grammar.specs.Several as g_kind
-use Rattle.grammar.specs.States as g
+use Rattle.grammar.proofs.States as g
 use Rattle.grammar.proofs.TermKinds.{accepted}
 use Rattle.grammar.proofs.Follows.{goes_on}
 use Rattle.grammar.proofs.SmallLiterals.{AreSmall, small_tokens}

@@ -1,5 +1,5 @@
 -- The view of each node.
-use Rattle.std.proofs.Common.{unsigned_abs, ◌≡◌, List}
+use Rattle.std.proofs.Common.{◌≡◌, List}
 use Rattle.ring_laws.specs.declared.wholes.Whole.{Whole}
 use Rattle.grammar.specs.Tree as d
 use Rattle.term_text.specs.declared.ast.Ast.{Ast}
@@ -8,7 +8,7 @@ use Rattle.term_text.specs.declared.ast.Node.{the_lemmas}
 use Rattle.term_text.specs.declared.ast.Node.TheVariants.{Literal, N, K, Sum, Product, Pow, Factorial, Binomial}
 use Rattle.term_text.specs.View.{tree_of, node_of, parts_of, part_of}
 
-pub node_of-literal : (w : Whole) → node_of (Literal w) ≡ d.literal (unsigned_abs w.value)
+pub node_of-literal : (w : Whole) → node_of (Literal w) ≡ d.literal w.value
 node_of-literal w = search the_lemmas
 
 pub node_of-n : node_of N ≡ d.variable_n

@@ -1,5 +1,5 @@
 -- A tree of the code as a tree of the definition.
-use Rattle.std.specs.Prelude.{unsigned_abs, Bool, List, [], ◌∷◌, map}
+use Rattle.std.specs.Prelude.{Bool, List, [], ◌∷◌, map}
 use Rattle.grammar.specs.Tree as d
 use Rattle.term_text.specs.declared.ast.Ast.{Ast}
 use Rattle.term_text.specs.declared.ast.Node.{Node, fold-Node}
@@ -12,7 +12,7 @@ parts [] = d.no_parts
 parts (p ∷ ps) = d.part p.0 p.1 (parts ps)
 
 abbrev pub node_step : Node-F d.Node d.Tree (Bool × d.Tree) → d.Node
-node_step (Node-F.Literal w) = d.literal (unsigned_abs w.value)
+node_step (Node-F.Literal w) = d.literal w.value
 node_step Node-F.N = d.variable_n
 node_step Node-F.K = d.variable_k
 node_step (Node-F.Sum ps) = d.sum_of (parts ps)

@@ -19,7 +19,7 @@ pub struct Ast {
 #[cycle(ast)]
 #[derive(Drop)]
 pub enum Node {
-    /// A whole number of at least 0.
+    /// A whole number: of at least 0 where it was read from a text.
     Literal(Whole),
     /// The variable `n`.
     N,

@@ -21,7 +21,7 @@ use tree_polynomials::times_power_of;
 pub(crate) fn number_fraction(number: Whole) -> Frac<Whole>
     ensures value { fraction_value result ≡ of_whole number.value }
 {
-    Frac::new(number, Whole { value: 1 }).unwrap()
+    Frac::new(number, Whole::ONE).unwrap()
 }
 
 // The fraction with the other sign.

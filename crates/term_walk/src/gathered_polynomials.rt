@@ -30,9 +30,9 @@ pub(crate) fn nothing_gathered(alloc: Global) -> Result<Gathered, TermFault>
     let factors = Factors::new(alloc)?;
     Ok(Gathered {
         poly,
-        scale: number_fraction(Whole { value: 1 }),
-        n_base: number_fraction(Whole { value: 1 }),
-        k_base: number_fraction(Whole { value: 1 }),
+        scale: number_fraction(Whole::ONE),
+        n_base: number_fraction(Whole::ONE),
+        k_base: number_fraction(Whole::ONE),
         factors,
     })
 }

@@ -48,8 +48,8 @@ fn form_of_list(coefficients: &[Zn]) -> Option<WideForm>
     ensures form { found wide_form_of result ≡ form_of_items (map ⟦<Zn as Ring>⟧.meaning coefficients.now) }
 {
     match coefficients {
-        [] => form_with_slope(&[], Some(Whole { value: 0 })),
-        [constant] => form_with_slope(constant.coefficients(), Some(Whole { value: 0 })),
+        [] => form_with_slope(&[], Some(Whole::ZERO)),
+        [constant] => form_with_slope(constant.coefficients(), Some(Whole::ZERO)),
         [constant, slope] => form_with_slope(
             constant.coefficients(),
             number_in_n(slope.coefficients()),
@@ -63,7 +63,7 @@ fn number_in_n(coefficients: &[Whole]) -> Option<Whole>
     ensures number { found whole_value result ≡ constant_in_n (map ⟦<Whole as Ring>⟧.meaning coefficients.now) }
 {
     match coefficients {
-        [] => Some(Whole { value: 0 }),
+        [] => Some(Whole::ZERO),
         [constant] => Some(*constant),
         _ => None,
     }
@@ -77,8 +77,8 @@ fn form_with_slope(coefficients: &[Whole], k_slope: Option<Whole>) -> Option<Wid
         return None;
     };
     let (offset, n_slope) = match coefficients {
-        [] => (Whole { value: 0 }, Whole { value: 0 }),
-        [offset] => (*offset, Whole { value: 0 }),
+        [] => (Whole::ZERO, Whole::ZERO),
+        [offset] => (*offset, Whole::ZERO),
         [offset, n_slope] => (*offset, *n_slope),
         _ => return None,
     };

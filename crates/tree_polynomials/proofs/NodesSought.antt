@@ -1,6 +1,6 @@
 -- What is sought of a tree by the node that stands there.
 use Rattle.std.proofs.Common.{◌≡◌, ap, sym, ◌∙◌, subst, List}
-use Rattle.std.specs.Prelude.{pos, unsigned_abs, Option, Some, None, Result, Ok}
+use Rattle.std.specs.Prelude.{Option, Some, None, Result, Ok}
 use Rattle.ring_laws.specs.Meaning.{Meaning}
 use Rattle.ring_laws.specs.declared.wholes.Whole.{Whole}
 use Rattle.poly_laws.specs.TwoVariables.{in_n_and_k, poly_n, poly_k}
@@ -29,8 +29,8 @@ node_sought : (a : Ast) (node : d.Node) → node_of a.node ≡ node → polynomi
 node_sought a node e = ap polynomial_sought (tree_of-at a) ∙ ap (node_polynomial_sought a.at) e
 
 pub literal_sought : (a : Ast) (w : Whole) → a.node ≡ Literal w
-    → polynomial_sought (tree_of a) ≡ gives (Some (in_n_and_k.whole (pos (unsigned_abs w.value))))
-literal_sought a w e = node_sought a (d.literal (unsigned_abs w.value)) (ap node_of e ∙ node_of-literal w)
+    → polynomial_sought (tree_of a) ≡ gives (Some (in_n_and_k.whole w.value))
+literal_sought a w e = node_sought a (d.literal w.value) (ap node_of e ∙ node_of-literal w)
 
 pub n_sought : (a : Ast) → a.node ≡ N → polynomial_sought (tree_of a) ≡ gives (Some poly_n)
 n_sought a e = node_sought a d.variable_n (ap node_of e ∙ node_of-n)

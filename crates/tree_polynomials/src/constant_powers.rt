@@ -53,7 +53,7 @@ fn natural_power(
     requires not_zero { bottom.value ≢ pos 0 }
     ensures answers { Answers term_cause (found fraction_value) (power_made at (pos power) (number_fraction top.value bottom.value)) result }
 {
-    let one = over(Whole { value: 1 }, Whole { value: 1 });
+    let one = over(Whole::ONE, Whole::ONE);
     let power = times_natural_power(alloc, at, &one, top, bottom, power)?;
     Ok(Some(power))
 }

@@ -31,7 +31,7 @@ fn constant_fraction(polynomial: &Znk) -> Option<Frac<Whole>>
     ensures constant { found fraction_value result ≡ whole_fraction (constant_in_k (items (⟦<Znk as Ring>⟧.meaning polynomial.now))) }
 {
     match constant_of(polynomial) {
-        Some(number) => Some(over(number, Whole { value: 1 })),
+        Some(number) => Some(over(number, Whole::ONE)),
         None => None,
     }
 }

@@ -86,7 +86,7 @@ fn product_of(alloc: Global, at: u32, factors: &[Factor]) -> Result<Frac<Whole>,
         (of_fraction (top_sizes (factors_of factors.now)) (bottom_sizes (factors_of factors.now)))
         (product_of_fractions (factors_of factors.now))) result }
 {
-    let mut product = over(Whole { value: 1 }, Whole { value: 1 });
+    let mut product = over(Whole::ONE, Whole::ONE);
     for factor in factors {
         product = times_factor(alloc, at, &product, factor)?;
     }

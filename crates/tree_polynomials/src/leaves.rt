@@ -1,20 +1,11 @@
-//! The polynomials that the leaves of a tree stand for.
+//! The polynomials that the variables of a tree stand for.
 
-ghost use Rattle.std.specs.Prelude.{pos, unsigned_abs};
 ghost use Rattle.ring_laws.specs.Answer.{Gives};
-ghost use Rattle.poly_laws.specs.TwoVariables.{in_n_and_k, poly_n, poly_k};
+ghost use Rattle.poly_laws.specs.TwoVariables.{poly_n, poly_k};
 
 use poly_generic::{Zn, Znk};
 use ring_laws::{Ring, RingFault, Whole};
 use std::alloc::Global;
-
-// The magnitude of the number as a polynomial.
-pub(crate) fn literal(alloc: Global, number: Whole) -> Result<Znk, RingFault>
-    ensures gives { Gives ⟦<Znk as Ring>⟧.meaning (in_n_and_k.whole (pos (unsigned_abs number.value))) result }
-{
-    let size = number.magnitude(alloc)?;
-    Znk::whole(alloc, size)
-}
 
 // The variable n.
 pub(crate) fn variable_n(alloc: Global) -> Result<Znk, RingFault>

@@ -12,7 +12,7 @@ ghost use Rattle.tree_polynomials.specs.Exponents.{raised_to, ToExponent};
 ghost use Rattle.tree_polynomials.specs.Views.{whole_value};
 
 use crate::exponents::natural_exponent;
-use crate::leaves::{literal, variable_k, variable_n};
+use crate::leaves::{variable_k, variable_n};
 use crate::operations::{added, answer_at, multiplied, raised};
 use crate::sums::signed;
 use poly_generic::{Zn, Znk};
@@ -26,7 +26,7 @@ fn constant_of_coefficient(coefficient: &Zn) -> Option<Whole>
     ensures constant { found whole_value result ≡ constant_in_n (items (⟦<Zn as Ring>⟧.meaning coefficient.now)) }
 {
     match coefficient.coefficients() {
-        [] => Some(Whole { value: 0 }),
+        [] => Some(Whole::ZERO),
         [number] => Some(*number),
         _ => None,
     }
@@ -37,7 +37,7 @@ pub fn constant_of(polynomial: &Znk) -> Option<Whole>
     ensures constant { found whole_value result ≡ constant_in_k (items (⟦<Znk as Ring>⟧.meaning polynomial.now)) }
 {
     match polynomial.coefficients() {
-        [] => Some(Whole { value: 0 }),
+        [] => Some(Whole::ZERO),
         [coefficient] => constant_of_coefficient(coefficient),
         _ => None,
     }
@@ -49,7 +49,7 @@ pub fn polynomial_of_tree(alloc: Global, tree: &Ast) -> Result<Option<Znk>, Term
     ensures answers { Answers term_cause (found ⟦<Znk as Ring>⟧.meaning) (polynomial_sought (tree_of tree.now)) result }
 {
     match &tree.node {
-        Node::Literal(number) => answer_at(tree.at, literal(alloc, *number)),
+        Node::Literal(number) => answer_at(tree.at, Znk::whole(alloc, *number)),
         Node::N => answer_at(tree.at, variable_n(alloc)),
         Node::K => answer_at(tree.at, variable_k(alloc)),
         Node::Sum(parts) => {

@@ -3,7 +3,7 @@ use Rattle.std.specs.Prelude.{ℕ, Bool, true, false, ◌&&◌, ◌==◌, ◌-�
 use Rattle.grammar.specs.Token as t
 use Rattle.grammar.specs.Reading as r
 use Rattle.grammar.specs.Several as k
-use Rattle.grammar.specs.States as g
+use Rattle.grammar.proofs.States as g
 use Rattle.term_text.specs.declared.state.Token.{Token}
 use Rattle.term_text.specs.declared.state.Token.TheVariants as token
 use Rattle.term_text.specs.declared.front.Flaw.{Flaw}

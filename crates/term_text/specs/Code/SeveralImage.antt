@@ -3,7 +3,7 @@ use Rattle.std.specs.Prelude.{List, [], ◌∷◌, ◌++◌, ℤ, neg_ℤ, Optio
 use Rattle.grammar.specs.Bounds.{Bound, plain_bound, minus_bound, Bounds, bound_alone, bound_more}
 use Rattle.grammar.specs.Several.{Terms, term_alone, term_more, Derivation, only_terms, with_bounds}
 use Rattle.grammar.specs.Several as g
-use Rattle.grammar.specs.States.{Before, BeforeBound, BoundState, wants_bound, wants_digits, has_bound, States, in_term, in_bounds}
+use Rattle.grammar.proofs.States.{Before, BeforeBound, BoundState, wants_bound, wants_digits, has_bound, States, in_term, in_bounds}
 use Rattle.term_text.specs.declared.ast.Ast.{Ast}
 use Rattle.term_text.specs.declared.bounds.Bounds as c
 use Rattle.term_text.specs.declared.bounds.Stage.TheVariants as stage

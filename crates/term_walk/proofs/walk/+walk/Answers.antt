@@ -1,6 +1,6 @@
 use Rattle.std.proofs.Common.{◌≡◌, refl, ap, sym, ◌∙◌, subst, arith, true, false}
 use Rattle.std.proofs.lemmas.Result.{err_from_is_err_and}
-use Rattle.std.specs.Prelude.{Ok, unsigned_abs}
+use Rattle.std.specs.Prelude.{Ok}
 use Rattle.steps.specs.Answers.{Answers}
 use Rattle.steps.specs.Found.{found}
 use Rattle.steps.specs.TermFaults.{term_cause}
@@ -166,7 +166,7 @@ pub walk_node-returns-in-Literal : goal.walk_node-returns-in-Literal
 walk_node-returns-in-Literal t c =
     let known = rw (held c.args.power.value c.args.power.small) at c.times_polynomial_of-in-Literal.ensures.answers in
     record {
-      answers = leaf_answer c.args.tree.now (Literal c.in-Literal.field-0) (d.literal (unsigned_abs c.in-Literal.field-0.value))
+      answers = leaf_answer c.args.tree.now (Literal c.in-Literal.field-0) (d.literal c.in-Literal.field-0.value)
           c.args.power.value (gathered_of c.args.gathered) c.times_polynomial_of-in-Literal.result c.in-Literal.is
           (node_of-literal c.in-Literal.field-0) refl known;
     }

@@ -17,7 +17,7 @@ use Rattle.tree_polynomials.proofs.polynomials.+seek.Goals as goal
 pub polynomial_of_tree-returns-in-Literal : goal.polynomial_of_tree-returns-in-Literal
 polynomial_of_tree-returns-in-Literal t c = record {
   answers = same_answer c.answer_at.result (found meaning_of) _ _
-      (literal_sought c.args.tree.now c.in-Literal.number c.in-Literal.is) (c.answer_at.ensures.leaf _ c.literal.ensures.gives);
+      (literal_sought c.args.tree.now c.in-Literal.number c.in-Literal.is) (c.answer_at.ensures.leaf _ c.whole.ensures.gives);
 }
 
 pub polynomial_of_tree-returns-in-N : goal.polynomial_of_tree-returns-in-N

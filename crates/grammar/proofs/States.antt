@@ -4,7 +4,7 @@ use Rattle.grammar.specs.Token.{Token, digits, minus, comma, semicolon, Placed}
 use Rattle.grammar.specs.Grammar.{Sum}
 use Rattle.grammar.specs.Bounds.{Bound, plain_bound, minus_bound, Bounds, bound_alone, bound_more, bound_text, bounds_text, count}
 use Rattle.grammar.specs.Several.{Terms, term_alone, term_more, Derivation, only_terms, with_bounds, terms_text, Kind, a_pair, a_boxed, a_recurrence, is_whole}
-use Rattle.grammar.specs.State.{State, begin, step, finished, state_text}
+use Rattle.grammar.proofs.State.{State, begin, step, finished, state_text}
 
 -- the terms before, and the place of the last semicolon
 abbrev pub Before : Type 0
