@@ -11,3 +11,4 @@ pub mod Outcomes
 pub mod Converters
 pub mod Complete
 pub mod Accepted
+pub mod KnownAnswerable
