@@ -12,7 +12,7 @@ use Rattle.hypergeometric.specs.ProperTerm.{ProperTerm, NoneNegative, IsDefinedA
 use Rattle.hypergeometric.specs.TermFacts.{IsProper}
 use Rattle.hypergeometric.specs.TermValue.{HasValue}
 use Rattle.hypergeometric.proofs.Definedness.{proper_value_defined}
-use Rattle.hypergeometric.proofs.FractionLaws.{one_not_zero, equal_to_itself, equal_turned, equal_products}
+use Rattle.hypergeometric.proofs.FractionLaws.{one_not_zero, equal_to_itself, equal_symmetric, equal_products}
 use Rattle.hypergeometric.proofs.DefinedValues.{left_defined, right_defined, base_defined, value_defined}
 use Rattle.hypergeometric.proofs.FractionPowers.{product_one}
 use Rattle.hypergeometric.proofs.SharedForms.{AllSome, all_more}
@@ -67,7 +67,7 @@ module _ (f : ProperTerm) (proper : IsProper f) where
   value_is_own p d =
       let own = proper_value f p in
       subst (λ z. z ≈ own_value f p) (product_one own)
-      (equal_products (equal_to_itself own (proper_value_defined f p (has_fractions f proper) d)) (equal_turned (guards_one p f.guard d.guard)))
+      (equal_products (equal_to_itself own (proper_value_defined f p (has_fractions f proper) d)) (equal_symmetric (guards_one p f.guard d.guard)))
 
   own_defined : (p : Point) → IsDefined (own_value f p) → IsDefinedAt f p
   own_defined p d =

@@ -9,7 +9,7 @@ use Rattle.hypergeometric.specs.LinearForm.{factor_list_value}
 use Rattle.hypergeometric.specs.ProperTerm.{ProperTerm, HasFractions, IsDefinedAt, proper_value, poly_value}
 use Rattle.hypergeometric.specs.Claim.{Claim, poles_value, certificate}
 use Rattle.hypergeometric.specs.TermValue.{HasValue}
-use Rattle.hypergeometric.proofs.FractionLaws.{one_not_zero, equal_to_itself, equal_turned, equal_chain, equal_products}
+use Rattle.hypergeometric.proofs.FractionLaws.{one_not_zero, equal_to_itself, equal_symmetric, equal_chain, equal_products}
 use Rattle.hypergeometric.proofs.FractionPowers.{fraction_with}
 use Rattle.hypergeometric.proofs.SameValues.{times_zero}
 use Rattle.term_pieces.specs.Pieces.{Pieces, ArePiecesOf, top_at}
@@ -39,7 +39,7 @@ module _ (f : ProperTerm) (value : Point → Fraction) (pieces : Pieces) (order 
   common_defined z = (share.tops 0 (omega arith)).right_defined (ap (λ b. pos 1 *ℤ b) z ∙ times_zero (pos 1))
 
   pub term_multiple : (j : ℕ) → j ≤ order → value (later_n p (pos j)) ≈ times_common (top_value (top_at pieces j) p) common
-  term_multiple j l = equal_chain (equal_turned (has.equal (later_n p (pos j)) (term_defined j l))) (share.tops j l)
+  term_multiple j l = equal_chain (equal_symmetric (has.equal (later_n p (pos j)) (term_defined j l))) (share.tops j l)
 
   pub carrier_here : IsDefinedAt c.carrier p
   carrier_here = subst (λ g. IsDefinedAt g p) (sym (goes.carrier ∙ are.carrier)) (defined_here f order p term_defined)
@@ -71,7 +71,7 @@ module _ (f : ProperTerm) (value : Point → Fraction) (pieces : Pieces) (order 
       equal_chain is (equal_chain
       (difference_of_multiples common (factor_list_value pieces.q0 p) (factor_list_value pieces.r0 (later_k p (negsuc 0))) s (poly_value c.y p)
       (poly_value c.y (later_k p (pos 1))) (poles_value c p) (poles_value c (later_k p (pos 1))) common_defined here next identity)
-      (equal_differences (equal_turned (certificate_next next)) (equal_turned (certificate_here here))))
+      (equal_differences (equal_symmetric (certificate_next next)) (equal_symmetric (certificate_here here))))
 
   place : p.n +ℤ pos 0 ≡ p.n
   place = omega (arith, ints)
@@ -99,7 +99,7 @@ module _ (f : ProperTerm) (value : Point → Fraction) (pieces : Pieces) (order 
       let b = factor_list_value (top_at pieces 0).factors p in
       let by_pieces = equal_chain (equal_products (certificate_here off) (equal_to_itself (of_whole (b *ℤ e *ℤ poles_value c p)) one_not_zero))
       (equal_chain (ratio_of_multiples common r e b (poly_value c.y p) (poles_value c p) common_defined off)
-      (equal_products (equal_turned first_multiple) (equal_to_itself (of_whole (r *ℤ poly_value c.y p)) one_not_zero))) in
+      (equal_products (equal_symmetric first_multiple) (equal_to_itself (of_whole (r *ℤ poly_value c.y p)) one_not_zero))) in
       subst (λ z. fraction_product (certificate c p) (of_whole (factor_list_value c.ratio_bottom p *ℤ poly_value f.poly p *ℤ poles_value c p))
       ≈ fraction_product (value p) (of_whole (z *ℤ poly_value c.y p))) top_is
       (subst (λ z. fraction_product (certificate c p) (of_whole (factor_list_value c.ratio_bottom p *ℤ z *ℤ poles_value c p))

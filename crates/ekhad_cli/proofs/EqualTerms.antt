@@ -8,7 +8,7 @@ use Rattle.hypergeometric.specs.LinearForm.{factor_list_value}
 use Rattle.hypergeometric.specs.ProperTerm.{poly_value, value_in_n}
 use Rattle.hypergeometric.specs.Claim.{Claim, left_side, shifted_sum, AllDefined}
 use Rattle.hypergeometric.specs.Telescopes.{Telescopes, TelescopesAtPoints, TelescopesOverRanges, HasRatio, sum_over_range}
-use Rattle.hypergeometric.proofs.FractionLaws.{one_not_zero, equal_to_itself, equal_turned, equal_chain, equal_sums, equal_products}
+use Rattle.hypergeometric.proofs.FractionLaws.{one_not_zero, equal_to_itself, equal_symmetric, equal_chain, equal_sums, equal_products}
 
 equal_ranges : (f g : Point → Fraction) → ((p : Point) → f p ≈ g p) → (p : Point) (count : ℕ) → sum_over_range f p count ≈ sum_over_range g p count
 equal_ranges f g same p zero = equal_to_itself (of_whole (pos 0)) one_not_zero
@@ -23,7 +23,7 @@ module _ (f g : Point → Fraction) (same : (p : Point) → f p ≈ g p) where
   equal_shifted : (multipliers : List Meaning) (p q : Point) → shifted_sum g multipliers p q ≈ shifted_sum f multipliers p q
   equal_shifted [] p q = equal_to_itself (of_whole (pos 0)) one_not_zero
   equal_shifted (a ∷ more) p q =
-      equal_sums (equal_products (equal_to_itself (of_whole (value_in_n a p)) one_not_zero) (equal_turned (same q)))
+      equal_sums (equal_products (equal_to_itself (of_whole (value_in_n a p)) one_not_zero) (equal_symmetric (same q)))
       (equal_shifted more p (later_n q (pos 1)))
 
   points : (c : Claim) → TelescopesAtPoints f c → TelescopesAtPoints g c

@@ -70,11 +70,14 @@ answered = record {
 }
 
 k_is_answerable : IsAnswerable Gosper (codes "k")
-k_is_answerable = (omega arith, record {
-  tree = tree_of_k;
-  read = read_k;
-  term = plain_term (pos 1) form_k;
-  class = class_of_k;
-  answered = answered;
-  in_bounds = in_bounds;
-})
+k_is_answerable = (
+  omega arith,
+  record {
+    tree = tree_of_k;
+    read = read_k;
+    term = plain_term (pos 1) form_k;
+    class = class_of_k;
+    answered = answered;
+    in_bounds = in_bounds;
+  },
+)

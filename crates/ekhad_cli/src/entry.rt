@@ -37,7 +37,7 @@ pub fn main<R: Env + AllocGlobal, S: Source, O: Sink, E: Sink>(
 ) -> ExitCode
     ensures ends { (status : Status) × (exit_status result ≡ code_of status)
         × (((words : List (List ℕ)) × IsRun S.left S.faults O.written O.faults E.written E.faults words status
-            input.old input.new out.old out.new err.old err.new)
+        input.old input.new out.old out.new err.old err.new)
         ⊎ HasNoWords E.written E.faults status input.old input.new out.old out.new err.old err.new) }
 {
     let status = match words_of(rt) {

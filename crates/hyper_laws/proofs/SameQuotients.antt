@@ -52,8 +52,8 @@ raised x y z w e = same_passing (level 1) (W.product x y) (W.product z w) e
 pub same_itself : (k : Case) (c : Meaning) → SameQuotient k c k c
 same_itself k c = refl
 
-pub same_turned : (k l : Case) (c d : Meaning) → SameQuotient k c l d → SameQuotient l d k c
-same_turned k l c d h = sym h
+pub same_symmetric : (k l : Case) (c d : Meaning) → SameQuotient k c l d → SameQuotient l d k c
+same_symmetric k l c d h = sym h
 
 pub same_chain : (k l m : Case) (c d e : Meaning) → HasQuotient l d → SameQuotient k c l d → SameQuotient l d m e → SameQuotient k c m e
 same_chain k l m c d e n h i =

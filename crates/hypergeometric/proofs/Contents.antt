@@ -12,7 +12,7 @@ use Rattle.hypergeometric.specs.Forms.{IsGreatestDivisor}
 use Rattle.hypergeometric.specs.PrimitiveForm.{is_negative_first, content_of_form, primitive_form}
 use Rattle.hypergeometric.proofs.SameValues.{times_zero}
 use Rattle.hypergeometric.proofs.GreatestDivisors.{greatest_is_gcd}
-use Rattle.hypergeometric.proofs.LowestTerms.{exact_quotient, turned_size}
+use Rattle.hypergeometric.proofs.LowestTerms.{exact_quotient, negated_size}
 use Rattle.hypergeometric.proofs.PrimitiveForms.{IsNotZero}
 
 -- the greatest common divisor of the numbers of a form
@@ -20,7 +20,7 @@ abbrev pub divisor_of_form : LinearForm → ℕ
 divisor_of_form f = greatest_common_divisor (unsigned_abs f.k_slope) (greatest_common_divisor (unsigned_abs f.n_slope) (unsigned_abs f.offset))
 
 pub content_size : (f : LinearForm) → unsigned_abs (content_of_form f) ≡ divisor_of_form f
-content_size f = turned_size (is_negative_first f) (pos (divisor_of_form f))
+content_size f = negated_size (is_negative_first f) (pos (divisor_of_form f))
 
 module _ (f : LinearForm) where
   inner_gcd : IsGcd (unsigned_abs f.n_slope) (unsigned_abs f.offset) (greatest_common_divisor (unsigned_abs f.n_slope) (unsigned_abs f.offset))

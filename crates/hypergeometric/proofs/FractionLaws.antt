@@ -26,8 +26,8 @@ cancel_factor c a b h e =
 pub equal_to_itself : (f : Fraction) → IsDefined f → f ≈ f
 equal_to_itself f d = record { left_defined = d; right_defined = d; cross = refl }
 
-pub equal_turned : {f g : Fraction} → f ≈ g → g ≈ f
-equal_turned e = record { left_defined = e.right_defined; right_defined = e.left_defined; cross = sym e.cross }
+pub equal_symmetric : {f g : Fraction} → f ≈ g → g ≈ f
+equal_symmetric e = record { left_defined = e.right_defined; right_defined = e.left_defined; cross = sym e.cross }
 
 pub cross_trans : (a b c d e f : ℤ) → d ≢ pos 0 → a *ℤ d ≡ c *ℤ b → c *ℤ f ≡ e *ℤ d → a *ℤ f ≡ e *ℤ b
 cross_trans a b c d e f n p q =

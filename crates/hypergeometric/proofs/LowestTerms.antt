@@ -13,11 +13,11 @@ use Rattle.ring_laws.specs.WholeDomain.{abs_nought}
 use Rattle.ring_laws.proofs.Quotients.{abs_rem}
 use Rattle.hypergeometric.specs.Fraction.{Fraction, IsDefined, fraction_product, natural_power, whole_power}
 use Rattle.hypergeometric.specs.ProperTerm.{IsNonzero}
-use Rattle.hypergeometric.specs.Divisors.{divides, greatest_common_divisor, turned_where, lowest_terms, raised_fraction}
+use Rattle.hypergeometric.specs.Divisors.{divides, greatest_common_divisor, negated_where, lowest_terms, raised_fraction}
 use Rattle.hypergeometric.proofs.GreatestDivisors.{greatest_is_gcd}
-use Rattle.hypergeometric.proofs.SameValues.{◌≅◌, same, same_chain, same_turned, same_natural_powers, zero_times}
+use Rattle.hypergeometric.proofs.SameValues.{◌≅◌, same, same_chain, same_symmetric, same_natural_powers, zero_times}
 use Rattle.hypergeometric.proofs.FractionPowers.{fraction_with, fraction_same}
-use Rattle.hypergeometric.proofs.NonzeroPowers.{turned_over, turned_over_nonzero, natural_power_nonzero, inverse_is_turned_over}
+use Rattle.hypergeometric.proofs.NonzeroPowers.{reciprocal, reciprocal_nonzero, natural_power_nonzero, inverse_is_reciprocal}
 
 -- a divisor times the quotient by it is the number
 pub exact_quotient : (z : ℤ) (g : ℤ) → unsigned_abs g ∣ unsigned_abs z → int_div z g *ℤ g ≡ z
@@ -25,57 +25,57 @@ exact_quotient z g divides =
     let r : int_rem z g ≡ pos 0 = abs_nought (int_rem z g) (abs_rem z g ∙ mod-eq-zero_of_dvd (unsigned_abs g) divides) in
     omega (arith, ints, quot-rem z g, r)
 
-pub turned_size : (b : Bool) (z : ℤ) → unsigned_abs (turned_where b z) ≡ unsigned_abs z
-turned_size false z = refl
-turned_size true (pos zero) = refl
-turned_size true (pos (suc n)) = refl
-turned_size true (negsuc n) = refl
+pub negated_size : (b : Bool) (z : ℤ) → unsigned_abs (negated_where b z) ≡ unsigned_abs z
+negated_size false z = refl
+negated_size true (pos zero) = refl
+negated_size true (pos (suc n)) = refl
+negated_size true (negsuc n) = refl
 
-pub turned_zero : (b : Bool) (z : ℤ) → turned_where b z ≡ pos 0 → z ≡ pos 0
-turned_zero false z e = e
-turned_zero true z e = omega (arith, ints, e)
+pub negated_zero : (b : Bool) (z : ℤ) → negated_where b z ≡ pos 0 → z ≡ pos 0
+negated_zero false z e = e
+negated_zero true z e = omega (arith, ints, e)
 
 -- numbers q and r with q * g = t and r * g = b, both turned, stand for t / b
 lowest_cross : (q r g t b : ℤ) → q *ℤ g ≡ t → r *ℤ g ≡ b → q *ℤ b ≡ r *ℤ t
 lowest_cross q r g t b h k = from2 integers r (negsuc 0 *ℤ q) h k (ring_z (q ∷ r ∷ g ∷ t ∷ b ∷ []) (search reading_z depth 40 fits 20000) refl)
 
-turned_cross : (turned : Bool) (q r t b : ℤ) → q *ℤ turned_where turned b ≡ r *ℤ turned_where turned t → q *ℤ b ≡ t *ℤ r
-turned_cross false q r t b e = from1 integers (pos 1) e (ring_z (q ∷ r ∷ t ∷ b ∷ []) (search reading_z depth 40 fits 20000) refl)
-turned_cross true q r t b e = from1 integers (negsuc 0) e (ring_z (q ∷ r ∷ t ∷ b ∷ []) (search reading_z depth 40 fits 20000) refl)
+negated_cross : (turned : Bool) (q r t b : ℤ) → q *ℤ negated_where turned b ≡ r *ℤ negated_where turned t → q *ℤ b ≡ t *ℤ r
+negated_cross false q r t b e = from1 integers (pos 1) e (ring_z (q ∷ r ∷ t ∷ b ∷ []) (search reading_z depth 40 fits 20000) refl)
+negated_cross true q r t b e = from1 integers (negsuc 0) e (ring_z (q ∷ r ∷ t ∷ b ∷ []) (search reading_z depth 40 fits 20000) refl)
 
 -- the divisor of the numbers of a fraction
 abbrev pub divisor_of : Fraction → ℕ
 divisor_of f = greatest_common_divisor (unsigned_abs f.top) (unsigned_abs f.bottom)
 
-abbrev pub is_turned : Fraction → Bool
-is_turned f = int_lt f.bottom (pos 0)
+abbrev pub has_negative_bottom : Fraction → Bool
+has_negative_bottom f = int_lt f.bottom (pos 0)
 
 module _ (f : Fraction) where
-  pub top_times : (lowest_terms f).top *ℤ pos (divisor_of f) ≡ turned_where (is_turned f) f.top
-  top_times = exact_quotient (turned_where (is_turned f) f.top) (pos (divisor_of f))
-      (subst (λ m. divisor_of f ∣ m) (sym (turned_size (is_turned f) f.top))
+  pub top_times : (lowest_terms f).top *ℤ pos (divisor_of f) ≡ negated_where (has_negative_bottom f) f.top
+  top_times = exact_quotient (negated_where (has_negative_bottom f) f.top) (pos (divisor_of f))
+      (subst (λ m. divisor_of f ∣ m) (sym (negated_size (has_negative_bottom f) f.top))
       (greatest_is_gcd (unsigned_abs f.top) (unsigned_abs f.bottom)).0)
 
-  pub bottom_times : (lowest_terms f).bottom *ℤ pos (divisor_of f) ≡ turned_where (is_turned f) f.bottom
-  bottom_times = exact_quotient (turned_where (is_turned f) f.bottom) (pos (divisor_of f))
-      (subst (λ m. divisor_of f ∣ m) (sym (turned_size (is_turned f) f.bottom))
+  pub bottom_times : (lowest_terms f).bottom *ℤ pos (divisor_of f) ≡ negated_where (has_negative_bottom f) f.bottom
+  bottom_times = exact_quotient (negated_where (has_negative_bottom f) f.bottom) (pos (divisor_of f))
+      (subst (λ m. divisor_of f ∣ m) (sym (negated_size (has_negative_bottom f) f.bottom))
       (greatest_is_gcd (unsigned_abs f.top) (unsigned_abs f.bottom)).1)
 
   -- where the quotient is 0, the number is
   pub lowest_bottom_zero : (lowest_terms f).bottom ≡ pos 0 → f.bottom ≡ pos 0
-  lowest_bottom_zero z = turned_zero (is_turned f) f.bottom (sym bottom_times ∙ ap (λ x. x *ℤ pos (divisor_of f)) z ∙ zero_times (pos (divisor_of f)))
+  lowest_bottom_zero z = negated_zero (has_negative_bottom f) f.bottom (sym bottom_times ∙ ap (λ x. x *ℤ pos (divisor_of f)) z ∙ zero_times (pos (divisor_of f)))
 
   pub lowest_top_zero : (lowest_terms f).top ≡ pos 0 → f.top ≡ pos 0
-  lowest_top_zero z = turned_zero (is_turned f) f.top (sym top_times ∙ ap (λ x. x *ℤ pos (divisor_of f)) z ∙ zero_times (pos (divisor_of f)))
+  lowest_top_zero z = negated_zero (has_negative_bottom f) f.top (sym top_times ∙ ap (λ x. x *ℤ pos (divisor_of f)) z ∙ zero_times (pos (divisor_of f)))
 
   -- lowest terms leave the value
   pub lowest_same : IsDefined f → lowest_terms f ≅ f
   lowest_same d = record {
     zero_right = lowest_bottom_zero;
     zero_left = λ z. absurd (d z);
-    cross = turned_cross (is_turned f) (lowest_terms f).top (lowest_terms f).bottom f.top f.bottom
-        (lowest_cross (lowest_terms f).top (lowest_terms f).bottom (pos (divisor_of f)) (turned_where (is_turned f) f.top)
-        (turned_where (is_turned f) f.bottom) top_times bottom_times);
+    cross = negated_cross (has_negative_bottom f) (lowest_terms f).top (lowest_terms f).bottom f.top f.bottom
+        (lowest_cross (lowest_terms f).top (lowest_terms f).bottom (pos (divisor_of f)) (negated_where (has_negative_bottom f) f.top)
+        (negated_where (has_negative_bottom f) f.bottom) top_times bottom_times);
   }
 
   pub lowest_nonzero : IsNonzero f → IsNonzero (lowest_terms f)
@@ -91,7 +91,7 @@ power_by_parts a b (suc e) =
 pub raised_same : (f : Fraction) (w : ℤ) → IsNonzero f → raised_fraction f w ≅ whole_power f w
 raised_same f (pos e) p = same (sym (power_by_parts f.top f.bottom e))
 raised_same f (negsuc e) p =
-    same_chain (same (sym (power_by_parts f.bottom f.top (suc e)))) (same_natural_powers (suc e) (same_turned (inverse_is_turned_over f p)))
+    same_chain (same (sym (power_by_parts f.bottom f.top (suc e)))) (same_natural_powers (suc e) (same_symmetric (inverse_is_reciprocal f p)))
 
 pub raised_natural : (f : Fraction) (e : ℕ) → raised_fraction f (pos e) ≡ natural_power f e
 raised_natural f e = sym (power_by_parts f.top f.bottom e)
@@ -99,4 +99,4 @@ raised_natural f e = sym (power_by_parts f.top f.bottom e)
 pub raised_nonzero : (f : Fraction) (w : ℤ) → IsNonzero f → IsNonzero (raised_fraction f w)
 raised_nonzero f (pos e) p = subst IsNonzero (power_by_parts f.top f.bottom e) (natural_power_nonzero f e p)
 raised_nonzero f (negsuc e) p =
-    subst IsNonzero (power_by_parts f.bottom f.top (suc e)) (natural_power_nonzero (turned_over f) (suc e) (turned_over_nonzero f p))
+    subst IsNonzero (power_by_parts f.bottom f.top (suc e)) (natural_power_nonzero (reciprocal f) (suc e) (reciprocal_nonzero f p))

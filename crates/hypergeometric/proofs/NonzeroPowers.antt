@@ -7,7 +7,7 @@ use Rattle.ring_solver.proofs.Read.{ring_z, reading_z}
 use Rattle.hypergeometric.specs.Fraction.{Fraction, of_whole, fraction_product, fraction_inverse, natural_power, whole_power}
 use Rattle.hypergeometric.specs.ProperTerm.{IsNonzero}
 use Rattle.hypergeometric.proofs.FractionLaws.{one_not_zero, product_not_zero}
-use Rattle.hypergeometric.proofs.SameValues.{◌≅◌, same, same_itself, same_chain, same_turned, same_products, same_natural_powers}
+use Rattle.hypergeometric.proofs.SameValues.{◌≅◌, same, same_itself, same_chain, same_symmetric, same_products, same_natural_powers}
 use Rattle.hypergeometric.proofs.FractionPowers.{fraction_with, product_comm, product_assoc, one_product, product_one, negated_power, natural_then_whole, negative_then_natural, negative_then_negative}
 
 pub product_nonzero : (f g : Fraction) → IsNonzero f → IsNonzero g → IsNonzero (fraction_product f g)
@@ -31,17 +31,17 @@ whole_power_nonzero f (pos n) p = natural_power_nonzero f n p
 whole_power_nonzero f (negsuc n) p = natural_power_nonzero (fraction_inverse f) (suc n) (inverse_nonzero f p)
 
 -- numerator and denominator change places
-abbrev pub turned_over : Fraction → Fraction
-turned_over f = fraction_with f.bottom f.top
+abbrev pub reciprocal : Fraction → Fraction
+reciprocal f = fraction_with f.bottom f.top
 
-pub turned_over_nonzero : (f : Fraction) → IsNonzero f → IsNonzero (turned_over f)
-turned_over_nonzero f p = record { top = p.bottom; bottom = p.top }
+pub reciprocal_nonzero : (f : Fraction) → IsNonzero f → IsNonzero (reciprocal f)
+reciprocal_nonzero f p = record { top = p.bottom; bottom = p.top }
 
 inverse_cross : (t b : ℤ) → (b *ℤ b) *ℤ t ≡ b *ℤ (t *ℤ b)
 inverse_cross t b = ring_z (t ∷ b ∷ []) (search reading_z depth 40 fits 20000) refl
 
-pub inverse_is_turned_over : (f : Fraction) → IsNonzero f → fraction_inverse f ≅ turned_over f
-inverse_is_turned_over f p = record {
+pub inverse_is_reciprocal : (f : Fraction) → IsNonzero f → fraction_inverse f ≅ reciprocal f
+inverse_is_reciprocal f p = record {
   zero_right = λ z. absurd (product_not_zero f.top f.bottom p.top p.bottom z);
   zero_left = λ z. absurd (p.top z);
   cross = inverse_cross f.top f.bottom;
@@ -78,7 +78,7 @@ power_then_power f (negsuc a) (negsuc m) n =
 
 pub negated_exponent : (f : Fraction) (w : ℤ) → f.top ≢ pos 0 → whole_power f (neg_ℤ w) ≅ whole_power (fraction_inverse f) w
 negated_exponent f (pos n) h = same (negated_power f n)
-negated_exponent f (negsuc n) h = same_natural_powers (suc n) (same_turned (inverse_twice f h))
+negated_exponent f (negsuc n) h = same_natural_powers (suc n) (same_symmetric (inverse_twice f h))
 
 -- f divided by f
 pub inverse_cancels : (f : Fraction) → IsNonzero f → fraction_product (fraction_inverse f) f ≅ of_whole (pos 1)
@@ -108,15 +108,15 @@ product_moved g x y = sym (product_assoc g x y) ∙ ap (λ t. fraction_product t
 module _ (f : Fraction) (p : IsNonzero f) where
   up_one : (w : ℤ) → whole_power f (w +ℤ pos 1) ≅ fraction_product f (whole_power f w)
   up_one (pos n) = same (ap (natural_power f) (add-one n))
-  up_one (negsuc zero) = same_turned (itself_then_inverse f (of_whole (pos 1)) p)
+  up_one (negsuc zero) = same_symmetric (itself_then_inverse f (of_whole (pos 1)) p)
   up_one (negsuc (suc n)) =
       let next : negsuc (suc n) +ℤ pos 1 ≡ negsuc n = omega (arith, ints) in
-      same_chain (same (ap (whole_power f) next)) (same_turned (itself_then_inverse f (natural_power (fraction_inverse f) (suc n)) p))
+      same_chain (same (ap (whole_power f) next)) (same_symmetric (itself_then_inverse f (natural_power (fraction_inverse f) (suc n)) p))
 
   down_one : (w : ℤ) → whole_power f (w +ℤ negsuc 0) ≅ fraction_product (fraction_inverse f) (whole_power f w)
   down_one w =
       let back : w +ℤ negsuc 0 +ℤ pos 1 ≡ w = omega (arith, ints) in
-      same_turned (same_chain (same_products (same_itself (fraction_inverse f))
+      same_symmetric (same_chain (same_products (same_itself (fraction_inverse f))
       (same_chain (same (ap (whole_power f) (sym back))) (up_one (w +ℤ negsuc 0))))
       (inverse_then_itself f (whole_power f (w +ℤ negsuc 0)) p))
 

@@ -12,7 +12,7 @@ use Rattle.hypergeometric.specs.PrimitiveForm.{content_of_form, primitive_form}
 use Rattle.hypergeometric.proofs.FractionLaws.{product_not_zero, equal_chain}
 use Rattle.hypergeometric.proofs.OnlyPrimitive.{only_primitive}
 use Rattle.hypergeometric.proofs.FractionPowers.{fraction_same}
-use Rattle.hypergeometric.proofs.SameValues.{same_equal, same_turned}
+use Rattle.hypergeometric.proofs.SameValues.{same_equal, same_symmetric}
 use Rattle.hypergeometric.proofs.LowestTerms.{lowest_same}
 use Rattle.hypergeometric.proofs.ReducedFractions.{HasLowestTerms, lowest_has_terms}
 use Rattle.hypergeometric.proofs.Contents.{k_slope_times, n_slope_times, offset_times}
@@ -45,7 +45,7 @@ one_fraction f g p q cross =
 pub only_lowest : (f g : Fraction) → IsDefined f → HasLowestTerms g → g.top *ℤ f.bottom ≡ f.top *ℤ g.bottom → g ≡ lowest_terms f
 only_lowest f g d h cross =
     one_fraction g (lowest_terms f) h (lowest_has_terms f d)
-    (equal_chain (record { left_defined = positive_defined; right_defined = d; cross = cross }) (same_equal (same_turned (lowest_same f d)) d)).cross
+    (equal_chain (record { left_defined = positive_defined; right_defined = d; cross = cross }) (same_equal (same_symmetric (lowest_same f d)) d)).cross
   where
     positive_defined : IsDefined g
     positive_defined z = omega (arith, ints, z, h.positive)

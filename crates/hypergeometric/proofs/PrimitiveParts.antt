@@ -9,7 +9,7 @@ use Rattle.hypergeometric.specs.LinearForm.{LinearForm}
 use Rattle.hypergeometric.specs.FormOrder.{IsPositiveFirst, IsPrimitive}
 use Rattle.hypergeometric.specs.TermFacts.{IsNotConstant}
 use Rattle.hypergeometric.specs.Forms.{IsGreatestDivisor}
-use Rattle.hypergeometric.specs.Divisors.{turned_where}
+use Rattle.hypergeometric.specs.Divisors.{negated_where}
 use Rattle.hypergeometric.specs.PrimitiveForm.{is_zero, is_negative_first, content_of_form, primitive_form}
 use Rattle.hypergeometric.proofs.PrimitiveForms.{IsNotZero, SignIs, primitive_quotients}
 use Rattle.hypergeometric.proofs.SameValues.{zero_or_not, zero_times}
@@ -75,16 +75,16 @@ content_sign f some = ⊎_elim
     (λ s. inr (negative s.0 (content_not_zero f some), s.1)) (λ s. inl (positive s.0 (content_not_zero f some), s.1)) (signed f some)
   where
     negative : is_negative_first f ≡ true → content_of_form f ≢ pos 0 → content_of_form f <ℤ pos 0
-    negative e n = by (divisor_of_form f) (ap (λ b. turned_where b (pos (divisor_of_form f))) e)
+    negative e n = by (divisor_of_form f) (ap (λ b. negated_where b (pos (divisor_of_form f))) e)
       where
-        by : (g : ℕ) → content_of_form f ≡ turned_where true (pos g) → content_of_form f <ℤ pos 0
+        by : (g : ℕ) → content_of_form f ≡ negated_where true (pos g) → content_of_form f <ℤ pos 0
         by zero h = absurd (n h)
         by (suc g) h = omega (arith, ints, h)
 
     positive : is_negative_first f ≡ false → content_of_form f ≢ pos 0 → pos 0 <ℤ content_of_form f
-    positive e n = by (divisor_of_form f) (ap (λ b. turned_where b (pos (divisor_of_form f))) e)
+    positive e n = by (divisor_of_form f) (ap (λ b. negated_where b (pos (divisor_of_form f))) e)
       where
-        by : (g : ℕ) → content_of_form f ≡ turned_where false (pos g) → pos 0 <ℤ content_of_form f
+        by : (g : ℕ) → content_of_form f ≡ negated_where false (pos g) → pos 0 <ℤ content_of_form f
         by zero h = absurd (n h)
         by (suc g) h = omega (arith, ints, h)
 

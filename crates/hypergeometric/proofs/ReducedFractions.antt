@@ -10,10 +10,10 @@ use lib.IntN.{*ℤ_comm}
 use Rattle.hypergeometric.specs.Fraction.{Fraction, IsDefined}
 use Rattle.hypergeometric.specs.ProperTerm.{IsNonzero}
 use Rattle.hypergeometric.specs.TermFacts.{IsNumber, IsLowest}
-use Rattle.hypergeometric.specs.Divisors.{turned_where, lowest_terms}
+use Rattle.hypergeometric.specs.Divisors.{negated_where, lowest_terms}
 use Rattle.hypergeometric.proofs.Signs.{same_sign}
 use Rattle.hypergeometric.proofs.GreatestDivisors.{greatest_is_gcd, greatest_positive}
-use Rattle.hypergeometric.proofs.LowestTerms.{divisor_of, is_turned, top_times, bottom_times, turned_size, lowest_nonzero}
+use Rattle.hypergeometric.proofs.LowestTerms.{divisor_of, has_negative_bottom, top_times, bottom_times, negated_size, lowest_nonzero}
 
 -- with a positive denominator, and no common divisor above 1
 pub record HasLowestTerms (f : Fraction) : Type 0 where
@@ -33,12 +33,12 @@ reduced_lowest f h top bottom = record { top = top; bottom = bottom; not_zero = 
 pub reduced_nonzero : (f : Fraction) → IsReduced f → IsNonzero f
 reduced_nonzero f h = record { top = h.not_zero; bottom = λ z. omega (arith, ints, z, h.positive) }
 
-turned_positive : (b : ℤ) → b ≢ pos 0 → pos 0 <ℤ turned_where (int_lt b (pos 0)) b
-turned_positive (pos zero) n = absurd (n refl)
-turned_positive (pos (suc m)) n =
+negated_positive : (b : ℤ) → b ≢ pos 0 → pos 0 <ℤ negated_where (int_lt b (pos 0)) b
+negated_positive (pos zero) n = absurd (n refl)
+negated_positive (pos (suc m)) n =
     cond_both (ltb (suc m) 0) (neg_ℤ (pos (suc m))) (pos (suc m)) (λ (z : ℤ). pos 0 <ℤ z) (λ e. absurd (omega (arith, ltb-true (suc m) 0 e)))
     (λ e. omega (arith, ints))
-turned_positive (negsuc m) n = omega (arith, ints)
+negated_positive (negsuc m) n = omega (arith, ints)
 
 some_size : (z : ℤ) (m : ℕ) → z ≢ pos 0 → 0 < m + unsigned_abs z
 some_size (pos zero) m n = absurd (n refl)
@@ -60,10 +60,10 @@ module _ (f : Fraction) (defined : IsDefined f) where
   no_common d p q =
       let g : ℕ = divisor_of f in
       let top : d * g ∣ unsigned_abs f.top = subst (λ m. d * g ∣ m)
-      (times_size (lowest_terms f).top (turned_where (is_turned f) f.top) f.top (top_times f) (turned_size (is_turned f) f.top))
+      (times_size (lowest_terms f).top (negated_where (has_negative_bottom f) f.top) f.top (top_times f) (negated_size (has_negative_bottom f) f.top))
       (mul-dvd-mul_right d p g) in
       let bottom : d * g ∣ unsigned_abs f.bottom = subst (λ m. d * g ∣ m)
-      (times_size (lowest_terms f).bottom (turned_where (is_turned f) f.bottom) f.bottom (bottom_times f) (turned_size (is_turned f) f.bottom))
+      (times_size (lowest_terms f).bottom (negated_where (has_negative_bottom f) f.bottom) f.bottom (bottom_times f) (negated_size (has_negative_bottom f) f.bottom))
       (mul-dvd-mul_right d q g) in
       let all : d * g ∣ g = divisor_is.2 (d * g) top bottom in
       let left : d * g ≡ g * d = omega arith in
@@ -74,7 +74,7 @@ module _ (f : Fraction) (defined : IsDefined f) where
   lowest_has_terms = record {
     positive = same_sign (pos (divisor_of f)) (lowest_terms f).bottom (omega (arith, ints, divisor_positive))
         (subst (λ (z : ℤ). pos 0 <ℤ z) (sym (*ℤ_comm (pos (divisor_of f)) (lowest_terms f).bottom ∙ bottom_times f))
-        (turned_positive f.bottom defined));
+        (negated_positive f.bottom defined));
     coprime = no_common;
   }
 

@@ -39,8 +39,8 @@ same e = record {
   cross = λ i. (e i).top *ℤ (sym e i).bottom;
 }
 
-pub same_turned : {f g : Fraction} → f ≅ g → g ≅ f
-same_turned e = record { zero_right = e.zero_left; zero_left = e.zero_right; cross = sym e.cross }
+pub same_symmetric : {f g : Fraction} → f ≅ g → g ≅ f
+same_symmetric e = record { zero_right = e.zero_left; zero_left = e.zero_right; cross = sym e.cross }
 
 pub times_zero : (a : ℤ) → a *ℤ pos 0 ≡ pos 0
 times_zero a = ring_z (a ∷ []) (search reading_z depth 40 fits 20000) refl
@@ -109,7 +109,7 @@ top_zero {f} {g} e z = ⊎_elim bottom
 pub same_inverses : {f g : Fraction} → f ≅ g → fraction_inverse f ≅ fraction_inverse g
 same_inverses {f} {g} e = record {
   zero_right = top_zero e;
-  zero_left = top_zero (same_turned e);
+  zero_left = top_zero (same_symmetric e);
   cross = cross_inverse f.top f.bottom g.top g.bottom e.cross;
 }
 

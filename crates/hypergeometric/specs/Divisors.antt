@@ -17,14 +17,14 @@ abbrev pub greatest_common_divisor : ℕ → ℕ → ℕ
 greatest_common_divisor a b = greatest_divisor_up_to (a + b) a b
 
 -- z, or -z
-abbrev pub turned_where : Bool → ℤ → ℤ
-turned_where turned z = cond turned (neg_ℤ z) z
+abbrev pub negated_where : Bool → ℤ → ℤ
+negated_where turned z = cond turned (neg_ℤ z) z
 
 -- without a common divisor, and with a positive denominator
 abbrev pub lowest_terms : Fraction → Fraction
 lowest_terms f = record {
-  top = int_div (turned_where (int_lt f.bottom (pos 0)) f.top) (pos (greatest_common_divisor (unsigned_abs f.top) (unsigned_abs f.bottom)));
-  bottom = int_div (turned_where (int_lt f.bottom (pos 0)) f.bottom) (pos (greatest_common_divisor (unsigned_abs f.top) (unsigned_abs f.bottom)));
+  top = int_div (negated_where (int_lt f.bottom (pos 0)) f.top) (pos (greatest_common_divisor (unsigned_abs f.top) (unsigned_abs f.bottom)));
+  bottom = int_div (negated_where (int_lt f.bottom (pos 0)) f.bottom) (pos (greatest_common_divisor (unsigned_abs f.top) (unsigned_abs f.bottom)));
 }
 
 -- f to a whole power: numerator and denominator change places where it is negative

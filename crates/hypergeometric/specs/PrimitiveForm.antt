@@ -2,7 +2,7 @@
 use Rattle.std.specs.Prelude.{Bool, ◌&&◌, cond, nat_eq, ℤ, pos, unsigned_abs, int_lt}
 use Rattle.std.specs.Int.RustNames.{int_div}
 use Rattle.hypergeometric.specs.LinearForm.{LinearForm}
-use Rattle.hypergeometric.specs.Divisors.{greatest_common_divisor, turned_where}
+use Rattle.hypergeometric.specs.Divisors.{greatest_common_divisor, negated_where}
 use Rattle.hypergeometric.specs.Forms.{form_with}
 
 abbrev pub is_zero : ℤ → Bool
@@ -21,7 +21,7 @@ is_negative_first f = cond (is_zero f.k_slope)
 
 -- The greatest common divisor of the three numbers, with the sign of the first that isn't 0; and the form without it, which is primitive.
 abbrev pub content_of_form : LinearForm → ℤ
-content_of_form f = turned_where (is_negative_first f)
+content_of_form f = negated_where (is_negative_first f)
     (pos (greatest_common_divisor (unsigned_abs f.k_slope) (greatest_common_divisor (unsigned_abs f.n_slope) (unsigned_abs f.offset))))
 
 abbrev pub primitive_form : LinearForm → LinearForm

@@ -93,12 +93,12 @@ module _ {A : Type 0} (o : Ops A) (l : RingLaws o) (d : NoDivisors o) (n : ℕ) 
       All-cons (ZeroBelow (suc j)) new news (new_zero j pivot old new m c.0 p (first_of (ZeroBelow j) old olds q))
       (news_zero j pivot olds news m c.1 p (rest_of (ZeroBelow j) old olds q))
 
-  turned_all : (j : ℕ) (pivot : List A) (olds news : List (List A)) → AllZip (Clears o n j pivot) olds news
+  all_cleared : (j : ℕ) (pivot : List A) (olds news : List (List A)) → AllZip (Clears o n j pivot) olds news
       → AllZip (Turned o n pivot) olds news
-  turned_all j pivot [] [] c = c
-  turned_all j pivot [] (new ∷ news) c = absurd c
-  turned_all j pivot (old ∷ olds) [] c = absurd c
-  turned_all j pivot (old ∷ olds) (new ∷ news) c = (c.0.turned, turned_all j pivot olds news c.1)
+  all_cleared j pivot [] [] c = c
+  all_cleared j pivot [] (new ∷ news) c = absurd c
+  all_cleared j pivot (old ∷ olds) [] c = absurd c
+  all_cleared j pivot (old ∷ olds) (new ∷ news) c = (c.0.turned, all_cleared j pivot olds news c.1)
 
   -- a pivot row is found, and the other open rows are cleared
   pub reached_climb : (j : ℕ) (ps : List (ℕ × List A)) (before after news : List (List A)) (pivot : List A) → j < n
@@ -129,7 +129,7 @@ module _ {A : Type 0} (o : Ops A) (l : RingLaws o) (d : NoDivisors o) (n : ℕ) 
           let c2 = All-right (K v) before (pivot ∷ after) b in
           let e : dot o n pivot v ≡ o.nought = first_of (K v) pivot after c2 in
           All-append (K v) news (rows_of (ps ++ (j, pivot) ∷ []))
-          (rows_on o l d n pivot (before ++ after) news v (turned_all j pivot (before ++ after) news c) e
+          (rows_on o l d n pivot (before ++ after) news v (all_cleared j pivot (before ++ after) news c) e
           (All-append (K v) before after (All-left (K v) before (pivot ∷ after) b) (rest_of (K v) pivot after c2)))
           (subst (All (K v)) (sym split) (All-push (K v) (rows_of ps) pivot (All-right (K v) (before ++ pivot ∷ after) (rows_of ps) a) e))
 
@@ -138,7 +138,7 @@ module _ {A : Type 0} (o : Ops A) (l : RingLaws o) (d : NoDivisors o) (n : ℕ) 
           let a = All-left (K v) news (rows_of (ps ++ (j, pivot) ∷ [])) k in
           let b = subst (All (K v)) split (All-right (K v) news (rows_of (ps ++ (j, pivot) ∷ [])) k) in
           let e : dot o n pivot v ≡ o.nought = first_of (K v) pivot [] (All-right (K v) (rows_of ps) (pivot ∷ []) b) in
-          let f = rows_back o l d n pivot (before ++ after) news v (turned_all j pivot (before ++ after) news c) e a in
+          let f = rows_back o l d n pivot (before ++ after) news v (all_cleared j pivot (before ++ after) news c) e a in
           r.same.back v
           (All-append (K v) (before ++ pivot ∷ after) (rows_of ps)
           (All-append (K v) before (pivot ∷ after) (All-left (K v) before after f)

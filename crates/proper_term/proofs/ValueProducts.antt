@@ -7,7 +7,7 @@ use Rattle.hypergeometric.specs.Fraction.{Fraction, IsDefined, ◌≈◌, of_who
 use Rattle.hypergeometric.specs.LinearForm.{Factor, form_value, factorial_value, inverse_factorial_value, product_over}
 use Rattle.hypergeometric.specs.ProperTerm.{ProperTerm, NoneNegative, NoneZero, IsDefinedAt, IsNonzero, HasFractions, poly_value, proper_value}
 use Rattle.hypergeometric.proofs.Definedness.{natural_power_defined, proper_value_defined}
-use Rattle.hypergeometric.proofs.FractionLaws.{one_not_zero, product_not_zero, equal_to_itself, equal_turned, equal_chain, equal_products}
+use Rattle.hypergeometric.proofs.FractionLaws.{one_not_zero, product_not_zero, equal_to_itself, equal_symmetric, equal_chain, equal_products}
 use Rattle.hypergeometric.proofs.DefinedValues.{left_defined, right_defined}
 use Rattle.proper_term.specs.Runs.{product_of}
 use Rattle.proper_term.specs.ValueBounds.{turned, base_power, divisors, factorial_factors, value_factors}
@@ -21,7 +21,7 @@ product_joined (x ∷ xs) ys d e =
     let here = left_defined x (product_of xs) d in
     let rest = product_joined xs ys (right_defined x (product_of xs) d) e in
     equal_chain (equal_products (equal_to_itself x here) rest)
-    (equal_turned (grouped x (product_of xs) (product_of ys) (product_not_zero _ _ d e)))
+    (equal_symmetric (grouped x (product_of xs) (product_of ys) (product_not_zero _ _ d e)))
 
 product_copies : (count : ℕ) (f : Fraction) → product_of (replicate count f) ≡ natural_power f count
 product_copies zero f = refl
@@ -31,8 +31,8 @@ equal_powers : (f g : Fraction) (p : ℕ) → f ≈ g → natural_power f p ≈ 
 equal_powers f g zero e = equal_to_itself (of_whole (pos 1)) one_not_zero
 equal_powers f g (suc p) e = equal_products e (equal_powers f g p e)
 
-inverse_turned : (f : Fraction) → IsNonzero f → turned f ≈ fraction_inverse f
-inverse_turned f h = record {
+inverse_symmetric : (f : Fraction) → IsNonzero f → turned f ≈ fraction_inverse f
+inverse_symmetric f h = record {
   left_defined = h.top;
   right_defined = product_not_zero f.top f.bottom h.top h.bottom;
   cross = cross f.top f.bottom;
@@ -44,7 +44,7 @@ inverse_turned f h = record {
 -- a power of a base
 pub power_kept : (f : Fraction) (z : ℤ) → IsNonzero f → base_power f z ≈ whole_power f z
 power_kept f (pos n) h = equal_to_itself (natural_power f n) (natural_power_defined f n h.bottom)
-power_kept f (negsuc n) h = equal_powers (turned f) (fraction_inverse f) (suc n) (inverse_turned f h)
+power_kept f (negsuc n) h = equal_powers (turned f) (fraction_inverse f) (suc n) (inverse_symmetric f h)
 
 one_over : (z : ℤ) → z ≢ pos 0 → record { top = pos 1; bottom = z } ≈ fraction_inverse (of_whole z)
 one_over z h = record { left_defined = h; right_defined = product_not_zero z (pos 1) h one_not_zero; cross = cross z }

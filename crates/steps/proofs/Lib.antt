@@ -2,5 +2,5 @@ pub mod StepLaws
 pub mod AnswerLaws
 pub mod LargerCounterparts
 pub mod Leading
-pub mod PartsSought
+pub mod FindingParts
 pub mod KnownSteps

@@ -14,17 +14,17 @@ use Rattle.hypergeometric.specs.ProperTerm.{ProperTerm, poly_value, IsNonzero, H
 use Rattle.hypergeometric.specs.Divisors.{lowest_terms, raised_fraction}
 use Rattle.hypergeometric.specs.Forms.{form_difference, difference_size}
 use Rattle.hypergeometric.proofs.PlainTerms.{difference_of_wholes}
-use Rattle.hypergeometric.proofs.SameValues.{◌≅◌, same, same_itself, same_chain, same_turned, same_products, same_sums, same_negatives}
+use Rattle.hypergeometric.proofs.SameValues.{◌≅◌, same, same_itself, same_chain, same_symmetric, same_products, same_sums, same_negatives}
 use Rattle.hypergeometric.proofs.FractionPowers.{product_one}
 use Rattle.hypergeometric.proofs.NonzeroPowers.{power_at_sum}
 use Rattle.grammar.specs.Tree.{Tree}
 use Rattle.term_classes.specs.TreePolynomial.{tree_polynomial}
 use Rattle.term_classes.specs.TreeValue.{tree_value, factorial_power, at_whole}
 use Rattle.term_classes.specs.Forms.{linear_form_of, limited_form}
-use Rattle.term_classes.specs.Sought.{polynomial_sought}
-use Rattle.term_classes.specs.Walk.{with_n_base, with_k_base, with_scale, place_of, with_factorial, form_or_refused, argument_sought, not_negative, times_exponential, times_binomial}
+use Rattle.term_classes.specs.Finding.{find_polynomial}
+use Rattle.term_classes.specs.Walk.{with_n_base, with_k_base, with_scale, place_of, with_factorial, form_or_refused, find_argument, not_negative, times_exponential, times_binomial}
 use Rattle.term_classes.proofs.PolynomialValues.{tree_has}
-use Rattle.term_classes.proofs.SoughtPolynomials.{sought_is}
+use Rattle.term_classes.proofs.FindingPolynomials.{finding_is}
 use Rattle.term_classes.proofs.TermProducts.{IsTimes, times_both, times_same}
 use Rattle.term_classes.proofs.FieldProducts.{scale_times, n_base_times, k_base_times}
 use Rattle.term_classes.proofs.FormValues.{linear_value}
@@ -45,19 +45,19 @@ form_found reason t (Some poly) l is e = by (linear_form_of (Some poly)) refl e
     by (Some m) q f = λ p. same_chain (tree_has t poly is (pos 1) p) (same (product_one (of_whole (poly_value poly p))
         ∙ ap of_whole (linear_value p poly m q) ∙ ap (λ l. of_whole (form_value l p)) (same_Ok m l f)))
 
-pub argument_found : (t : Tree) (l : LinearForm) → (argument_sought t).outcome ≡ Ok l → HasForm t l
+pub argument_found : (t : Tree) (l : LinearForm) → (find_argument t).outcome ≡ Ok l → HasForm t l
 argument_found t l e =
-    let g = then_gave (polynomial_sought t) (λ p. form_or_refused 1 t (linear_form_of p)) l e in
-    form_found 1 t g.value l (sought_is t g.value g.first) g.second
+    let g = then_gave (find_polynomial t) (λ p. form_or_refused 1 t (linear_form_of p)) l e in
+    form_found 1 t g.value l (finding_is t g.value g.first) g.second
 
 -- f to the power w * (s * n + t * k + c), in three parts
 three_powers : (f : Fraction) → IsNonzero f → (l : LinearForm) (w : ℤ) (p : Point)
     → fraction_product (fraction_product (whole_power f (w *ℤ l.offset)) (whole_power f (w *ℤ l.k_slope *ℤ p.k))) (whole_power f (w *ℤ l.n_slope *ℤ p.n))
     ≅ whole_power f (w *ℤ form_value l p)
 three_powers f h l w p =
-    same_chain (same_products (same_turned (power_at_sum f h (w *ℤ l.offset) (w *ℤ l.k_slope *ℤ p.k)))
+    same_chain (same_products (same_symmetric (power_at_sum f h (w *ℤ l.offset) (w *ℤ l.k_slope *ℤ p.k)))
     (same_itself (whole_power f (w *ℤ l.n_slope *ℤ p.n))))
-    (same_chain (same_turned (power_at_sum f h (w *ℤ l.offset +ℤ w *ℤ l.k_slope *ℤ p.k) (w *ℤ l.n_slope *ℤ p.n)))
+    (same_chain (same_symmetric (power_at_sum f h (w *ℤ l.offset +ℤ w *ℤ l.k_slope *ℤ p.k) (w *ℤ l.n_slope *ℤ p.n)))
     (same (ap (whole_power f) (joined w l.n_slope l.k_slope l.offset p.n p.k))))
   where
     joined : (w s t c n k : ℤ) → w *ℤ c +ℤ w *ℤ t *ℤ k +ℤ w *ℤ s *ℤ n ≡ w *ℤ (s *ℤ n +ℤ t *ℤ k +ℤ c)
@@ -129,9 +129,9 @@ pub binomial_row : (at : ℕ) (upper lower : Tree) (w : ℤ) (s s' : ProperTerm)
     (fraction_product (at_whole (factorial_power (neg_ℤ w)) (tree_value lower (pos 1) p))
     (at_whole (factorial_power (neg_ℤ w)) (fraction_difference (tree_value upper (pos 1) p) (tree_value lower (pos 1) p)))))
 binomial_row at upper lower w s s' h e =
-    let a = then_gave (argument_sought upper) (λ l. argument_sought lower then (λ m. arguments_tested at upper lower l m w s)) s' e in
+    let a = then_gave (find_argument upper) (λ l. find_argument lower then (λ m. arguments_tested at upper lower l m w s)) s' e in
     let l = a.value in
-    let b = then_gave (argument_sought lower) (λ m. arguments_tested at upper lower l m w s) s' a.second in
+    let b = then_gave (find_argument lower) (λ m. arguments_tested at upper lower l m w s) s' a.second in
     let m = b.value in
     let c = skipped (not_negative (place_of upper) l) (not_negative (place_of lower) m then (λ m1. difference_made at l m w s)) s' b.second in
     let d = skipped (not_negative (place_of lower) m) (difference_made at l m w s) s' c in

@@ -13,7 +13,7 @@ use Rattle.hypergeometric.specs.FactorLists.{power_of, in_both, without}
 use Rattle.hypergeometric.specs.TermValue.{HasValue}
 use Rattle.hypergeometric.proofs.FractionLaws.{one_not_zero}
 use Rattle.hypergeometric.proofs.Definedness.{proper_value_defined}
-use Rattle.hypergeometric.proofs.SameValues.{◌≅◌, same, same_itself, same_chain, same_turned, same_products, same_equal}
+use Rattle.hypergeometric.proofs.SameValues.{◌≅◌, same, same_itself, same_chain, same_symmetric, same_products, same_equal}
 use Rattle.hypergeometric.proofs.FractionPowers.{fraction_same, product_one, one_product, products_exchange, power_of_product}
 use Rattle.hypergeometric.proofs.SharedForms.{AllSome, all_more, own_powers, both_forms, both_distinct, both_in_first, both_in_second, both_below_first, both_below_second, without_forms}
 use Rattle.hypergeometric.proofs.SharedProducts.{product_parts}
@@ -126,6 +126,6 @@ module _ (s : ProperTerm) (h : CanCancel s) where
   pub cancelled_has : HasValue (cancelled s) (proper_value s)
   cancelled_has = record {
     defined = λ p. (cancelled_defined p, defined_cancelled p);
-    equal = λ p d. same_equal (same_turned (value_same p d))
+    equal = λ p d. same_equal (same_symmetric (value_same p d))
         (λ z. cancelled_defined p d ((value_same p d).zero_left z));
   }

@@ -21,13 +21,13 @@ use Rattle.hypergeometric.specs.Divisors.{lowest_terms, raised_fraction, size_of
 use Rattle.hypergeometric.specs.PrimitiveForm.{is_zero}
 use Rattle.hypergeometric.proofs.PlainTerms.{whole_power_of_one}
 use Rattle.hypergeometric.proofs.Definedness.{natural_power_defined}
-use Rattle.hypergeometric.proofs.SameValues.{◌≅◌, same, same_itself, same_chain, same_turned, same_products, same_whole_powers}
+use Rattle.hypergeometric.proofs.SameValues.{◌≅◌, same, same_itself, same_chain, same_symmetric, same_products, same_whole_powers}
 use Rattle.hypergeometric.proofs.FractionPowers.{fraction_same, whole_power_of_product, natural_then_whole}
 use Rattle.hypergeometric.proofs.NonzeroPowers.{power_then_power}
 use Rattle.hypergeometric.proofs.LowestTerms.{lowest_same, lowest_bottom_zero, raised_same, raised_natural, raised_nonzero}
 use Rattle.grammar.specs.Tree.{Tree}
 use Rattle.term_classes.specs.TreeValue.{tree_value}
-use Rattle.term_classes.specs.Sought.{power_made, negative_of}
+use Rattle.term_classes.specs.Finding.{power_made, negative_of}
 use Rattle.term_classes.proofs.PolynomialParts.{power_value}
 
 -- a polynomial that is a constant has its value at each point
@@ -88,7 +88,7 @@ module _ (base : Tree) (f : Fraction) (h : IsConstant f (tree_value base)) where
   constant_power c w p other twice =
       cond_both (nat_eq (unsigned_abs c) 0) (of_whole (pos 1)) (tree_value base (w *ℤ c) p) (λ v. v ≅ whole_power (whole_power f c) w)
       (λ e. same (sym (whole_power_of_one w) ∙ ap (λ c. whole_power (whole_power f c) w) (sym (abs_nought c (eqb-true (unsigned_abs c) 0 e)))))
-      (λ e. same_chain (h.power (w *ℤ c) p) (same_chain (same (ap (whole_power f) (*ℤ_comm w c))) (same_turned (twice w))))
+      (λ e. same_chain (h.power (w *ℤ c) p) (same_chain (same (ap (whole_power f) (*ℤ_comm w c))) (same_symmetric (twice w))))
 
   lowered : (c : ℤ) (r : Fraction) (other : ℤ → Point → Fraction) → IsDefined r → r ≅ whole_power f c
       → ((w : ℤ) → whole_power (whole_power f c) w ≅ whole_power f (c *ℤ w))
@@ -96,7 +96,7 @@ module _ (base : Tree) (f : Fraction) (h : IsConstant f (tree_value base)) where
   lowered c r other d e twice = record {
     defined = λ z. d (lowest_bottom_zero r z);
     power = λ w p. same_chain (constant_power c w p (other w p) twice)
-        (same_whole_powers w (same_chain (same_turned e) (same_turned (lowest_same r d))));
+        (same_whole_powers w (same_chain (same_symmetric e) (same_symmetric (lowest_same r d))));
   }
 
   pub power_made_has : (at : ℕ) (c : ℤ) (g : Fraction) (other : ℤ → Point → Fraction) → (power_made at c f).outcome ≡ Ok (Some g)

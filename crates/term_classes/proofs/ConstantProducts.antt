@@ -16,20 +16,20 @@ use Rattle.hypergeometric.specs.ProperTerm.{poly_value, IsNonzero}
 use Rattle.hypergeometric.specs.Divisors.{lowest_terms}
 use Rattle.hypergeometric.specs.PrimitiveForm.{is_zero}
 use Rattle.hypergeometric.proofs.FractionLaws.{one_not_zero, product_not_zero}
-use Rattle.hypergeometric.proofs.SameValues.{◌≅◌, same, same_chain, same_turned, same_products, same_whole_powers}
+use Rattle.hypergeometric.proofs.SameValues.{◌≅◌, same, same_chain, same_symmetric, same_products, same_whole_powers}
 use Rattle.hypergeometric.proofs.FractionPowers.{whole_power_of_product}
-use Rattle.hypergeometric.proofs.NonzeroPowers.{inverse_is_turned_over, negated_exponent}
+use Rattle.hypergeometric.proofs.NonzeroPowers.{inverse_is_reciprocal, negated_exponent}
 use Rattle.hypergeometric.proofs.LowestTerms.{lowest_same, lowest_bottom_zero}
 use Rattle.grammar.specs.Tree.{Tree, Node, Parts, part}
 use Rattle.term_classes.specs.TreePolynomial.{node_polynomial}
 use Rattle.term_classes.specs.TreeValue.{tree_value, node_value, product_value, part_power}
-use Rattle.term_classes.specs.Sought.{FractionFactor, divides_by_zero, factor_fraction, product_of_fractions, product_made, power_made, whole_fraction, constant_sought, node_constant_sought, constants_sought, top_sizes, bottom_sizes}
+use Rattle.term_classes.specs.Finding.{FractionFactor, divides_by_zero, factor_fraction, product_of_fractions, product_made, power_made, whole_fraction, find_constant, find_node_constant, find_constants, top_sizes, bottom_sizes}
 use Rattle.term_classes.proofs.PolynomialValues.{node_has}
 use Rattle.term_classes.proofs.PolynomialParts.{power_value}
 use Rattle.term_classes.proofs.ConstantPowers.{IsConstant, constant_value, power_made_has, unless_given, not_zero}
 
 abbrev pub FoundIn : Tree → Type 0
-FoundIn t = (f : Fraction) → (constant_sought t).outcome ≡ Ok (Some f) → IsConstant f (tree_value t)
+FoundIn t = (f : Fraction) → (find_constant t).outcome ≡ Ok (Some f) → IsConstant f (tree_value t)
 
 -- a factor, or one that is divided by and isn't 0
 factor_has : (turned : Bool) (f : Fraction) (t : Tree) → IsConstant f (tree_value t) → (turned && is_zero f.top) ≡ false
@@ -40,7 +40,7 @@ factor_has true f t h e =
     record {
       defined = nonzero.top;
       power = λ w p. same_chain (h.power (neg_ℤ w) p)
-          (same_chain (negated_exponent f w nonzero.top) (same_whole_powers w (inverse_is_turned_over f nonzero)));
+          (same_chain (negated_exponent f w nonzero.top) (same_whole_powers w (inverse_is_reciprocal f nonzero)));
     }
 
 neither : (b c : Bool) → (b || c) ≡ false → (b ≡ false) × (c ≡ false)
@@ -48,7 +48,7 @@ neither true c e = absurd (true≢false e)
 neither false c e = (refl, e)
 
 abbrev FactorsFoundIn : Parts → Type 0
-FactorsFoundIn parts = (fs : List FractionFactor) → (constants_sought parts).outcome ≡ Ok (Some fs) → divides_by_zero fs ≡ false
+FactorsFoundIn parts = (fs : List FractionFactor) → (find_constants parts).outcome ≡ Ok (Some fs) → divides_by_zero fs ≡ false
     → IsConstant (product_of_fractions fs) (product_value parts)
 
 both_factors : (f g : Fraction) (u v : ℤ → Point → Fraction) → IsConstant f u → IsConstant g v
@@ -60,7 +60,7 @@ both_factors f g u v e q = record {
 
 -- a factor in front of the others
 in_front_has : (turned : Bool) (f : Fraction) (t : Tree) (parts : Parts) (gs : Option (List FractionFactor)) (fs : List FractionFactor)
-    → (constants_sought parts).outcome ≡ Ok gs → in_front (turned, f) gs ≡ Some fs → divides_by_zero fs ≡ false
+    → (find_constants parts).outcome ≡ Ok gs → in_front (turned, f) gs ≡ Some fs → divides_by_zero fs ≡ false
     → IsConstant f (tree_value t) → FactorsFoundIn parts → IsConstant (product_of_fractions fs) (product_value (part turned t parts))
 in_front_has turned f t parts None fs found e d h rest = absurd (none-some fs e)
 in_front_has turned f t parts (Some gs) fs found e d h rest =
@@ -71,15 +71,15 @@ in_front_has turned f t parts (Some gs) fs found e d h rest =
     (factor_has turned f t h parted.0) (rest gs found parted.1))
 
 pub one_factor_has : (turned : Bool) (t : Tree) (a : Option Fraction) (parts : Parts) (fs : List FractionFactor)
-    → (where_some a (λ f1. constants_sought parts then (λ fs. gives (in_front (turned, f1) fs)))).outcome ≡ Ok (Some fs)
+    → (where_some a (λ f1. find_constants parts then (λ fs. gives (in_front (turned, f1) fs)))).outcome ≡ Ok (Some fs)
     → divides_by_zero fs ≡ false → ((f : Fraction) → a ≡ Some f → IsConstant f (tree_value t)) → FactorsFoundIn parts
     → IsConstant (product_of_fractions fs) (product_value (part turned t parts))
 one_factor_has turned t None parts fs e d h rest = absurd (none-some fs (same_Ok None (Some fs) e))
 one_factor_has turned t (Some f) parts fs e d h rest =
-    let g = then_gave (constants_sought parts) (λ fs. gives (in_front (turned, f) fs)) (Some fs) e in
+    let g = then_gave (find_constants parts) (λ fs. gives (in_front (turned, f) fs)) (Some fs) e in
     in_front_has turned f t parts g.value fs g.first (same_Ok (in_front (turned, f) g.value) (Some fs) g.second) d (h f refl) rest
 
-pub product_found : (at : ℕ) (parts : Parts) (a : Option (List FractionFactor)) (f : Fraction) → (constants_sought parts).outcome ≡ Ok a
+pub product_found : (at : ℕ) (parts : Parts) (a : Option (List FractionFactor)) (f : Fraction) → (find_constants parts).outcome ≡ Ok a
     → (product_made at a).outcome ≡ Ok (Some f) → FactorsFoundIn parts → IsConstant f (product_value parts)
 product_found at parts None f found e rest = absurd (none-some f (same_Ok None (Some f) e))
 product_found at parts (Some fs) f found e rest =
@@ -87,24 +87,24 @@ product_found at parts (Some fs) f found e rest =
     let h = rest fs found u.0 in
     subst (λ f. IsConstant f (product_value parts)) u.1 (record {
       defined = λ z. h.defined (lowest_bottom_zero (product_of_fractions fs) z);
-      power = λ w p. same_chain (h.power w p) (same_whole_powers w (same_turned (lowest_same (product_of_fractions fs) h.defined)));
+      power = λ w p. same_chain (h.power w p) (same_whole_powers w (same_symmetric (lowest_same (product_of_fractions fs) h.defined)));
     })
 
 some_power : (at : ℕ) (base : Tree) (c : ℤ) (a : Option Fraction) (f : Fraction) (other : ℤ → Point → Fraction)
-    → (constant_sought base).outcome ≡ Ok a → (where_some a (power_made at c)).outcome ≡ Ok (Some f) → FoundIn base
+    → (find_constant base).outcome ≡ Ok a → (where_some a (power_made at c)).outcome ≡ Ok (Some f) → FoundIn base
     → IsConstant f (λ w p. power_value base (Some c) w p (other w p))
 some_power at base c None f other found e h = absurd (none-some f (same_Ok None (Some f) e))
 some_power at base c (Some g) f other found e h = power_made_has base g (h g found) at c f other e
 
 pub power_found : (at : ℕ) (base : Tree) (c : Option ℤ) (f : Fraction) (other : ℤ → Point → Fraction)
     → (where_some c (λ c. within_limit Exponent (unsigned_abs c) c then (λ c1.
-    constant_sought base then (λ f. where_some f (power_made at c))))).outcome ≡ Ok (Some f) → FoundIn base
+    find_constant base then (λ f. where_some f (power_made at c))))).outcome ≡ Ok (Some f) → FoundIn base
     → IsConstant f (λ w p. power_value base c w p (other w p))
 power_found at base None f other e h = absurd (none-some f (same_Ok None (Some f) e))
 power_found at base (Some c) f other e h =
-    let g = then_gave (within_limit Exponent (unsigned_abs c) c) (λ c1. constant_sought base then (λ f. where_some f (power_made at c)))
+    let g = then_gave (within_limit Exponent (unsigned_abs c) c) (λ c1. find_constant base then (λ f. where_some f (power_made at c)))
     (Some f) e in
-    let b = then_gave (constant_sought base) (λ f. where_some f (power_made at c)) (Some f) g.second in
+    let b = then_gave (find_constant base) (λ f. where_some f (power_made at c)) (Some f) g.second in
     some_power at base c b.value f other b.first b.second h
 
 whole_given : (q : Meaning) (c : Option ℤ) (f : Fraction) → whole_fraction c ≡ Some f → constant_in_k (items q) ≡ c
@@ -119,9 +119,9 @@ whole_given q (Some z) f e constant value h = subst (λ f. IsConstant f value) (
 pub constant_or : (at : ℕ) (node : Node) (p : Option Meaning) (f : Fraction) → node_polynomial node ≡ p
     → (elim p as (λ _. TermSteps (Option Fraction)) [
       | Some q ↦ gives (whole_fraction (constant_in_k (items q)))
-      | None ↦ node_constant_sought at node
+      | None ↦ find_node_constant at node
     ]).outcome ≡ Ok (Some f)
-    → ((node_constant_sought at node).outcome ≡ Ok (Some f) → IsConstant f (node_value node)) → IsConstant f (node_value node)
+    → ((find_node_constant at node).outcome ≡ Ok (Some f) → IsConstant f (node_value node)) → IsConstant f (node_value node)
 constant_or at node None f is e h = h e
 constant_or at node (Some q) f is e h =
     whole_given q (constant_in_k (items q)) f (same_Ok (whole_fraction (constant_in_k (items q))) (Some f) e) refl (node_value node)

@@ -18,9 +18,9 @@ use Rattle.hypergeometric.specs.Forms.{form_difference}
 use Rattle.hypergeometric.proofs.Contents.{content_not_zero}
 use Rattle.grammar.specs.Tree.{Tree, Node}
 use Rattle.term_classes.specs.Forms.{linear_form_of, limited_form, limited_exponent}
-use Rattle.term_classes.specs.Sought.{node_polynomial_sought, constant_sought}
-use Rattle.term_classes.specs.Walk.{with_poly, with_scale, with_n_base, with_k_base, place_of, times_power, few_factors, with_factorial, with_denominator, times_number, times_polynomial, times_sought, form_or_refused, base_or_refused, argument_sought, not_negative, times_exponential, times_binomial, walk}
-use Rattle.term_classes.proofs.SoughtPolynomials.{node_sought_is}
+use Rattle.term_classes.specs.Finding.{find_node_polynomial, find_constant}
+use Rattle.term_classes.specs.Walk.{with_poly, with_scale, with_n_base, with_k_base, place_of, times_power, few_factors, with_factorial, with_denominator, times_number, times_polynomial, times_found, form_or_refused, base_or_refused, find_argument, not_negative, times_exponential, times_binomial, walk}
+use Rattle.term_classes.proofs.FindingPolynomials.{find_node_is}
 use Rattle.term_classes.proofs.ConstantPowers.{not_zero}
 use Rattle.term_classes.proofs.ConstantValues.{constant_has}
 use Rattle.term_classes.proofs.PassingPolynomials.{Belongs, node_belongs}
@@ -75,10 +75,10 @@ module _ (P : ProperTerm → Type 0) (rows : RowsKeep P) where
           let g = then_gave (limited_form l) (λ l1. with_denominator at l (suc w) s) s' f in
           denominator_keeps at q l w s s' varying form (limits_given l g.value g.first) p g.second
 
-  sought_keeps : (at : ℕ) (w : ℤ) (s s' : ProperTerm) (o : Option Meaning) → ((q : Meaning) → o ≡ Some q → Belongs q) → P s
-      → (times_sought at w s o).outcome ≡ Ok s' → P s'
-  sought_keeps at w s s' None belongs p e = absurd (not_refused (improper 6 at) s' e)
-  sought_keeps at w s s' (Some q) belongs p e = by (constant_in_k (items q)) refl e
+  finding_keeps : (at : ℕ) (w : ℤ) (s s' : ProperTerm) (o : Option Meaning) → ((q : Meaning) → o ≡ Some q → Belongs q) → P s
+      → (times_found at w s o).outcome ≡ Ok s' → P s'
+  finding_keeps at w s s' None belongs p e = absurd (not_refused (improper 6 at) s' e)
+  finding_keeps at w s s' (Some q) belongs p e = by (constant_in_k (items q)) refl e
     where
       by : (c : Option ℤ) → constant_in_k (items q) ≡ c → (elim c as (λ _. TermSteps ProperTerm) [
         | Some z ↦ times_number at z w s
@@ -87,17 +87,17 @@ module _ (P : ProperTerm → Type 0) (rows : RowsKeep P) where
       by (Some z) constant f = number_keeps at z w s s' p f
       by None constant f = polynomial_keeps at q w s s' (record { belongs = belongs q refl; no_number = constant }) p f
 
-  pub node_sought_keeps : (at : ℕ) (node : Node) (w : ℤ) (s s' : ProperTerm) → P s
-      → (node_polynomial_sought at node then (times_sought at w s)).outcome
+  pub find_node_keeps : (at : ℕ) (node : Node) (w : ℤ) (s s' : ProperTerm) → P s
+      → (find_node_polynomial at node then (times_found at w s)).outcome
       ≡ Ok s' → P s'
-  node_sought_keeps at node w s s' p e =
-      let g = then_gave (node_polynomial_sought at node) (times_sought at w s) s' e in
-      sought_keeps at w s s' g.value (λ q f. node_belongs node q (node_sought_is at node g.value g.first ∙ f)) p g.second
+  find_node_keeps at node w s s' p e =
+      let g = then_gave (find_node_polynomial at node) (times_found at w s) s' e in
+      finding_keeps at w s s' g.value (λ q f. node_belongs node q (find_node_is at node g.value g.first ∙ f)) p g.second
 
   exponential_keeps : (at : ℕ) (base e : Tree) (o : Option LinearForm) (w : ℤ) (s s' : ProperTerm) → P s
       → (exponential_walk at base e o w s).outcome ≡ Ok s' → P s'
   exponential_keeps at base e o w s s' p given =
-      let a = then_gave (constant_sought base) (λ b. base_or_refused at b then (λ b1. form_or_refused 5 e o then (λ l.
+      let a = then_gave (find_constant base) (λ b. base_or_refused at b then (λ b1. form_or_refused 5 e o then (λ l.
       limited_exponent l then (λ l1. times_exponential at b1 l w s)))) s' given in
       let b = then_gave (base_or_refused at a.value)
       (λ b1. form_or_refused 5 e o then (λ l. limited_exponent l then (λ l1. times_exponential at b1 l w s))) s' a.second in
@@ -131,9 +131,9 @@ module _ (P : ProperTerm → Type 0) (rows : RowsKeep P) where
       ≡ Ok s'
       → P s'
   binomial_keeps at upper lower w s s' n p e =
-      let a = then_gave (argument_sought upper) (λ l. argument_sought lower then (λ m. arguments_tested at upper lower l m w s)) s' e in
+      let a = then_gave (find_argument upper) (λ l. find_argument lower then (λ m. arguments_tested at upper lower l m w s)) s' e in
       let l = a.value in
-      let b = then_gave (argument_sought lower) (λ m. arguments_tested at upper lower l m w s) s' a.second in
+      let b = then_gave (find_argument lower) (λ m. arguments_tested at upper lower l m w s) s' a.second in
       let m = b.value in
       let c = skipped (not_negative (place_of upper) l) (not_negative (place_of lower) m then (λ m1. difference_made at l m w s)) s' b.second in
       let d = skipped (not_negative (place_of lower) m) (difference_made at l m w s) s' c in

@@ -8,7 +8,7 @@ use Rattle.steps.specs.TermFaults.{improper}
 use Rattle.steps.specs.declared.limits.LimitName.TheVariants.{Order}
 use Rattle.grammar.specs.Tree.{Tree, tree, literal, variable_n, variable_k, sum_of, product_of, power_of, factorial_of, no_parts, part}
 use Rattle.term_classes.specs.Walk.{class_of}
-use Rattle.term_classes.specs.Recurrence.{recurrence_sought}
+use Rattle.term_classes.specs.Recurrence.{find_recurrence}
 
 abbrev n_at : ℕ → Tree
 n_at at = tree at variable_n
@@ -23,21 +23,21 @@ abbrev poly_n : Meaning
 poly_n = listed (number (pos 0) ∷ number (pos 1) ∷ [])
 
 -- n; 2; n+1
-known_recurrence : (recurrence_sought (n_at 0 ∷ number_at 3 2
+known_recurrence : (find_recurrence (n_at 0 ∷ number_at 3 2
     ∷ tree 7 (sum_of (part false (n_at 6) (part false (number_at 8 1) no_parts))) ∷ [])).outcome
     ≡ Ok (poly_n ∷ listed (number (pos 2) ∷ []) ∷ listed (number (pos 1) ∷ number (pos 1) ∷ []) ∷ [])
 known_recurrence = refl
 
 -- n; k! and n; n! and 0; n and n; 0 and 0; k
-refused : ((recurrence_sought (n_at 0 ∷ tree 4 (factorial_of (k_at 3)) ∷ [])).outcome ≡ Err (improper 8 3))
-    × ((recurrence_sought (n_at 0 ∷ tree 4 (factorial_of (n_at 3)) ∷ [])).outcome ≡ Err (improper 6 4))
-    × ((recurrence_sought (number_at 0 0 ∷ n_at 3 ∷ [])).outcome ≡ Err (improper 7 0))
-    × ((recurrence_sought (n_at 0 ∷ number_at 3 0 ∷ [])).outcome ≡ Err (improper 7 3))
-    × ((recurrence_sought (number_at 0 0 ∷ k_at 3 ∷ [])).outcome ≡ Err (improper 8 3))
+refused : ((find_recurrence (n_at 0 ∷ tree 4 (factorial_of (k_at 3)) ∷ [])).outcome ≡ Err (improper 8 3))
+    × ((find_recurrence (n_at 0 ∷ tree 4 (factorial_of (n_at 3)) ∷ [])).outcome ≡ Err (improper 6 4))
+    × ((find_recurrence (number_at 0 0 ∷ n_at 3 ∷ [])).outcome ≡ Err (improper 7 0))
+    × ((find_recurrence (n_at 0 ∷ number_at 3 0 ∷ [])).outcome ≡ Err (improper 7 3))
+    × ((find_recurrence (number_at 0 0 ∷ k_at 3 ∷ [])).outcome ≡ Err (improper 8 3))
 refused = (refl, refl, refl, refl, refl)
 
 -- eight trees
-too_many : (recurrence_sought (k_at 0 ∷ k_at 2 ∷ k_at 4 ∷ k_at 6 ∷ k_at 8 ∷ k_at 10 ∷ k_at 12 ∷ k_at 14 ∷ [])).outcome ≡ Err (limit Order 7)
+too_many : (find_recurrence (k_at 0 ∷ k_at 2 ∷ k_at 4 ∷ k_at 6 ∷ k_at 8 ∷ k_at 10 ∷ k_at 12 ∷ k_at 14 ∷ [])).outcome ≡ Err (limit Order 7)
 too_many = refl
 
 abbrev ten_to_12 : ℕ → Tree

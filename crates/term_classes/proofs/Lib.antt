@@ -2,7 +2,7 @@ pub mod KnownSquares
 pub mod PolynomialParts
 pub mod PolynomialValues
 pub mod PassingPolynomials
-pub mod SoughtPolynomials
+pub mod FindingPolynomials
 pub mod ConstantPowers
 pub mod ConstantProducts
 pub mod ConstantValues

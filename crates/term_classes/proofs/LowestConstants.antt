@@ -17,13 +17,13 @@ use Rattle.steps.specs.TermFaults.{TermSteps}
 use Rattle.steps.specs.declared.limits.LimitName.TheVariants.{Exponent}
 use Rattle.steps.proofs.StepLaws.{then_gave, same_Ok}
 use Rattle.hypergeometric.specs.Fraction.{Fraction, IsDefined, of_whole, fraction_negative}
-use Rattle.hypergeometric.specs.Divisors.{turned_where, lowest_terms, raised_fraction, size_of_top, size_of_bottom}
+use Rattle.hypergeometric.specs.Divisors.{negated_where, lowest_terms, raised_fraction, size_of_top, size_of_bottom}
 use Rattle.hypergeometric.specs.PrimitiveForm.{is_zero}
-use Rattle.hypergeometric.proofs.LowestTerms.{divisor_of, is_turned, turned_size}
+use Rattle.hypergeometric.proofs.LowestTerms.{divisor_of, has_negative_bottom, negated_size}
 use Rattle.hypergeometric.proofs.ReducedFractions.{HasLowestTerms, lowest_has_terms}
 use Rattle.grammar.specs.Tree.{Tree, tree, Node, literal, variable_n, variable_k, sum_of, product_of, power_of, factorial_of, binomial_of, no_parts, part}
 use Rattle.term_classes.specs.TreePolynomial.{constant_of}
-use Rattle.term_classes.specs.Sought.{FractionFactor, divides_by_zero, product_of_fractions, product_made, power_made, whole_fraction, negative_of, top_sizes, bottom_sizes, polynomial_sought, node_polynomial_sought, constant_sought, node_constant_sought, constants_sought}
+use Rattle.term_classes.specs.Finding.{FractionFactor, divides_by_zero, product_of_fractions, product_made, power_made, whole_fraction, negative_of, top_sizes, bottom_sizes, find_polynomial, find_node_polynomial, find_constant, find_node_constant, find_constants}
 use Rattle.term_classes.proofs.ConstantValues.{constant_has}
 use Rattle.term_classes.proofs.ConstantPowers.{unless_given}
 
@@ -31,15 +31,15 @@ whole_terms : (z : ℤ) → HasLowestTerms (of_whole z)
 whole_terms z = record { positive = omega (arith, ints); coprime = λ d p q. dvd_antisymm q (one-dvd d) }
 
 negative_terms : (f : Fraction) → HasLowestTerms f → HasLowestTerms (fraction_negative f)
-negative_terms f h = record { positive = h.positive; coprime = λ d p q. h.coprime d (subst (λ m. d ∣ m) (turned_size true f.top) p) q }
+negative_terms f h = record { positive = h.positive; coprime = λ d p q. h.coprime d (subst (λ m. d ∣ m) (negated_size true f.top) p) q }
 
 -- lowest terms of what is not defined are not defined
 lowest_not_defined : (f : Fraction) → f.bottom ≡ pos 0 → (lowest_terms f).bottom ≡ pos 0
 lowest_not_defined f z = abs_nought (lowest_terms f).bottom (omega (
   arith,
-  abs_div (turned_where (is_turned f) f.bottom) (pos (divisor_of f)),
-  div-le_self (unsigned_abs (turned_where (is_turned f) f.bottom)) (divisor_of f),
-  turned_size (is_turned f) f.bottom,
+  abs_div (negated_where (has_negative_bottom f) f.bottom) (pos (divisor_of f)),
+  div-le_self (unsigned_abs (negated_where (has_negative_bottom f) f.bottom)) (divisor_of f),
+  negated_size (has_negative_bottom f) f.bottom,
   ap unsigned_abs z,
 ))
 
@@ -75,12 +75,12 @@ some_power_lowered at c (Some g) f e = power_lowered at c g f e
 
 exponent_lowered : (at : ℕ) (base : Tree) (c : Option ℤ) (f : Fraction)
     → (where_some c (λ c. within_limit Exponent (unsigned_abs c) c then (λ c1.
-    constant_sought base then (λ f. where_some f (power_made at c))))).outcome ≡ Ok (Some f) → IsLowered f
+    find_constant base then (λ f. where_some f (power_made at c))))).outcome ≡ Ok (Some f) → IsLowered f
 exponent_lowered at base None f e = absurd (none-some f (same_Ok None (Some f) e))
 exponent_lowered at base (Some c) f e =
-    let g = then_gave (within_limit Exponent (unsigned_abs c) c) (λ c1. constant_sought base then (λ f. where_some f (power_made at c)))
+    let g = then_gave (within_limit Exponent (unsigned_abs c) c) (λ c1. find_constant base then (λ f. where_some f (power_made at c)))
     (Some f) e in
-    let b = then_gave (constant_sought base) (λ f. where_some f (power_made at c)) (Some f) g.second in
+    let b = then_gave (find_constant base) (λ f. where_some f (power_made at c)) (Some f) g.second in
     some_power_lowered at c b.value f b.second
 
 whole_given_terms : (c : Option ℤ) (f : Fraction) → whole_fraction c ≡ Some f → HasLowestTerms f
@@ -94,23 +94,23 @@ negated_terms (Some g) f e h = subst HasLowestTerms (same_Some (fraction_negativ
 polynomial_or : (at : ℕ) (node : Node) (p : Option Meaning) (f : Fraction)
     → (elim p as (λ _. TermSteps (Option Fraction)) [
       | Some q ↦ gives (whole_fraction (constant_in_k (items q)))
-      | None ↦ node_constant_sought at node
+      | None ↦ find_node_constant at node
     ]).outcome ≡ Ok (Some f)
-    → ((node_constant_sought at node).outcome ≡ Ok (Some f) → HasLowestTerms f) → HasLowestTerms f
+    → ((find_node_constant at node).outcome ≡ Ok (Some f) → HasLowestTerms f) → HasLowestTerms f
 polynomial_or at node None f e h = h e
 polynomial_or at node (Some q) f e h = whole_given_terms (constant_in_k (items q)) f (same_Ok (whole_fraction (constant_in_k (items q))) (Some f) e)
 
 mutual
   -- the constant of a tree is in lowest terms
-  pub constant_terms : (t : Tree) (f : Fraction) → (constant_sought t).outcome ≡ Ok (Some f) → HasLowestTerms f
+  pub constant_terms : (t : Tree) (f : Fraction) → (find_constant t).outcome ≡ Ok (Some f) → HasLowestTerms f
   constant_terms (tree at node) f e =
-      let g = then_gave (node_polynomial_sought at node) (λ p. elim p as (λ _. TermSteps (Option Fraction)) [
+      let g = then_gave (find_node_polynomial at node) (λ p. elim p as (λ _. TermSteps (Option Fraction)) [
         | Some q ↦ gives (whole_fraction (constant_in_k (items q)))
-        | None ↦ node_constant_sought at node
+        | None ↦ find_node_constant at node
       ]) (Some f) e in
       polynomial_or at node g.value f g.second (node_terms at node f (constant_has (tree at node) f e).defined)
 
-  node_terms : (at : ℕ) (node : Node) (f : Fraction) → IsDefined f → (node_constant_sought at node).outcome ≡ Ok (Some f) → HasLowestTerms f
+  node_terms : (at : ℕ) (node : Node) (f : Fraction) → IsDefined f → (find_node_constant at node).outcome ≡ Ok (Some f) → HasLowestTerms f
   node_terms at (literal c) f d e = absurd (none-some f (same_Ok None (Some f) e))
   node_terms at variable_n f d e = absurd (none-some f (same_Ok None (Some f) e))
   node_terms at variable_k f d e = absurd (none-some f (same_Ok None (Some f) e))
@@ -118,15 +118,15 @@ mutual
   node_terms at (sum_of (part false t parts)) f d e = absurd (none-some f (same_Ok None (Some f) e))
   node_terms at (sum_of (part true t (part turned s parts))) f d e = absurd (none-some f (same_Ok None (Some f) e))
   node_terms at (sum_of (part true t no_parts)) f d e =
-      let g = then_gave (constant_sought t) (λ f. gives (negative_of f)) (Some f) e in
+      let g = then_gave (find_constant t) (λ f. gives (negative_of f)) (Some f) e in
       negated_terms g.value f (same_Ok (negative_of g.value) (Some f) g.second)
-      (λ h q. constant_terms t h (subst (λ v. (constant_sought t).outcome ≡ Ok v) q g.first))
+      (λ h q. constant_terms t h (subst (λ v. (find_constant t).outcome ≡ Ok v) q g.first))
   node_terms at (product_of parts) f d e =
-      let g = then_gave (constants_sought parts) (product_made at) (Some f) e in
+      let g = then_gave (find_constants parts) (product_made at) (Some f) e in
       lowered_terms f (product_lowered at g.value f g.second) d
   node_terms at (power_of base e) f d h =
-      let g = then_gave (polynomial_sought e) (λ p. where_some (constant_of p) (λ c. within_limit Exponent (unsigned_abs c) c then (λ c1.
-      constant_sought base then (λ f. where_some f (power_made at c))))) (Some f) h in
+      let g = then_gave (find_polynomial e) (λ p. where_some (constant_of p) (λ c. within_limit Exponent (unsigned_abs c) c then (λ c1.
+      find_constant base then (λ f. where_some f (power_made at c))))) (Some f) h in
       lowered_terms f (exponent_lowered at base (constant_of g.value) f g.second) d
   node_terms at (factorial_of t) f d e = absurd (none-some f (same_Ok None (Some f) e))
   node_terms at (binomial_of l m) f d e = absurd (none-some f (same_Ok None (Some f) e))

@@ -13,13 +13,13 @@ use Rattle.grammar.specs.Tree.{Tree, tree, Node, literal, variable_n, variable_k
 use Rattle.term_classes.specs.TreePolynomial.{constant_of}
 use Rattle.term_classes.specs.TreeValue.{part_power}
 use Rattle.term_classes.specs.Forms.{linear_form_of, limited_form}
-use Rattle.term_classes.specs.Sought.{polynomial_sought}
-use Rattle.term_classes.specs.Walk.{with_scale, place_of, with_factorial, argument_sought, not_negative, walk, walk_node, walk_parts}
+use Rattle.term_classes.specs.Finding.{find_polynomial}
+use Rattle.term_classes.specs.Walk.{with_scale, place_of, with_factorial, find_argument, not_negative, walk, walk_node, walk_parts}
 use Rattle.term_classes.proofs.WalkRows.{whole_nonzero}
 use Rattle.term_classes.proofs.ArgumentRows.{skipped}
 use Rattle.term_classes.proofs.WalkValues.{exponential_walk, minus_one_not_zero}
 use Rattle.term_classes.proofs.RowFacts.{RowsKeep, limits_given, part_not_zero}
-use Rattle.term_classes.proofs.KeptRows.{factorial_keeps, node_sought_keeps, binomial_keeps, power_keeps}
+use Rattle.term_classes.proofs.KeptRows.{factorial_keeps, find_node_keeps, binomial_keeps, power_keeps}
 
 module _ (P : ProperTerm → Type 0) (rows : RowsKeep P) where
   mutual
@@ -27,25 +27,25 @@ module _ (P : ProperTerm → Type 0) (rows : RowsKeep P) where
     walk_keeps (tree at node) w s s' n p e = node_keeps at node w s s' n p e
 
     node_keeps : (at : ℕ) (node : Node) (w : ℤ) (s s' : ProperTerm) → w ≢ pos 0 → P s → (walk_node at node w s).outcome ≡ Ok s' → P s'
-    node_keeps at (literal c) w s s' n p e = node_sought_keeps P rows at (literal c) w s s' p e
-    node_keeps at variable_n w s s' n p e = node_sought_keeps P rows at variable_n w s s' p e
-    node_keeps at variable_k w s s' n p e = node_sought_keeps P rows at variable_k w s s' p e
-    node_keeps at (sum_of no_parts) w s s' n p e = node_sought_keeps P rows at (sum_of no_parts) w s s' p e
-    node_keeps at (sum_of (part false t parts)) w s s' n p e = node_sought_keeps P rows at (sum_of (part false t parts)) w s s' p e
-    node_keeps at (sum_of (part true t (part turned u parts))) w s s' n p e = node_sought_keeps P rows at (sum_of (part true t (part turned u parts)))
+    node_keeps at (literal c) w s s' n p e = find_node_keeps P rows at (literal c) w s s' p e
+    node_keeps at variable_n w s s' n p e = find_node_keeps P rows at variable_n w s s' p e
+    node_keeps at variable_k w s s' n p e = find_node_keeps P rows at variable_k w s s' p e
+    node_keeps at (sum_of no_parts) w s s' n p e = find_node_keeps P rows at (sum_of no_parts) w s s' p e
+    node_keeps at (sum_of (part false t parts)) w s s' n p e = find_node_keeps P rows at (sum_of (part false t parts)) w s s' p e
+    node_keeps at (sum_of (part true t (part turned u parts))) w s s' n p e = find_node_keeps P rows at (sum_of (part true t (part turned u parts)))
         w s s' p e
     node_keeps at (sum_of (part true t no_parts)) w s s' n p e =
         walk_keeps t w (with_scale (lowest_terms (fraction_product s.scale (raised_fraction (of_whole (negsuc 0)) w))) s) s' n
         (rows.scale s (of_whole (negsuc 0)) w p (whole_nonzero (negsuc 0) minus_one_not_zero)) e
     node_keeps at (product_of parts) w s s' n p e = parts_keep parts w s s' n p e
     node_keeps at (power_of base e) w s s' n p given =
-        let g = then_gave (polynomial_sought e) (λ p. elim (constant_of p) as (λ _. TermSteps ProperTerm) [
+        let g = then_gave (find_polynomial e) (λ p. elim (constant_of p) as (λ _. TermSteps ProperTerm) [
           | Some c ↦ within_limit Exponent (unsigned_abs (w *ℤ c)) c then (λ c1. if is_zero c then gives s else walk base (w *ℤ c) s)
           | None ↦ exponential_walk at base e (linear_form_of p) w s
         ]) s' given in
         power_keeps P rows at base e (linear_form_of g.value) (constant_of g.value) w s s' n p g.second (λ v m f. walk_keeps base v s s' m p f)
     node_keeps at (factorial_of t) w s s' n p e =
-        let g = then_gave (argument_sought t) (λ l. not_negative (place_of t) l then (λ l1. limited_form l then (λ l2. with_factorial l w s))) s' e in
+        let g = then_gave (find_argument t) (λ l. not_negative (place_of t) l then (λ l1. limited_form l then (λ l2. with_factorial l w s))) s' e in
         let h = skipped (not_negative (place_of t) g.value) (limited_form g.value then (λ l2. with_factorial g.value w s)) s' g.second in
         let i = then_gave (limited_form g.value) (λ l2. with_factorial g.value w s) s' h in
         factorial_keeps P rows g.value w s s' n (limits_given g.value i.value i.first) p i.second

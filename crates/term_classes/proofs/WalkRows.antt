@@ -16,12 +16,12 @@ use Rattle.hypergeometric.specs.FactorLists as lists
 use Rattle.hypergeometric.specs.Divisors.{lowest_terms, raised_fraction}
 use Rattle.hypergeometric.specs.PrimitiveForm.{is_zero, content_of_form, primitive_form}
 use Rattle.hypergeometric.proofs.FractionLaws.{one_not_zero}
-use Rattle.hypergeometric.proofs.SameValues.{◌≅◌, same, same_chain, same_turned}
+use Rattle.hypergeometric.proofs.SameValues.{◌≅◌, same, same_chain, same_symmetric}
 use Rattle.hypergeometric.proofs.FractionPowers.{product_comm, whole_power_of_product}
 use Rattle.hypergeometric.proofs.Contents.{content_not_zero, content_times}
 use Rattle.term_classes.specs.TreeValue.{factorial_power}
 use Rattle.term_classes.specs.Forms.{linear_form_of, limited_form}
-use Rattle.term_classes.specs.Walk.{with_lists, with_scale, with_poly, times_power, few_factors, with_factorial, with_denominator, times_number, times_polynomial, times_sought}
+use Rattle.term_classes.specs.Walk.{with_lists, with_scale, with_poly, times_power, few_factors, with_factorial, with_denominator, times_number, times_polynomial, times_found}
 use Rattle.term_classes.proofs.PassingPolynomials.{Belongs}
 use Rattle.term_classes.proofs.VaryingForms.{IsVarying, varying_not_zero}
 use Rattle.term_classes.proofs.PolynomialParts.{value_of_power}
@@ -111,17 +111,17 @@ polynomial_row at poly (negsuc w) s s' varying h e = by (linear_form_of (Some po
         (λ p. same (ap (λ z. whole_power (of_whole z) (negsuc w)) (sym (linear_value p poly l q))))
 
 -- a literal, n, k or a sum, where a polynomial is found
-pub sought_row : (at : ℕ) (w : ℤ) (s s' : ProperTerm) (poly : Option Meaning) → ((q : Meaning) → poly ≡ Some q → Belongs q) → HasFractions s
-    → (times_sought at w s poly).outcome ≡ Ok s' → (v : Point → Fraction)
+pub finding_row : (at : ℕ) (w : ℤ) (s s' : ProperTerm) (poly : Option Meaning) → ((q : Meaning) → poly ≡ Some q → Belongs q) → HasFractions s
+    → (times_found at w s poly).outcome ≡ Ok s' → (v : Point → Fraction)
     → ((q : Meaning) → poly ≡ Some q → (p : Point) → v p ≅ whole_power (of_whole (poly_value q p)) w) → IsTimes s s' v
-sought_row at w s s' None belongs h e v f = absurd (not_refused (improper 6 at) s' e)
-sought_row at w s s' (Some q) belongs h e v f = by (constant_in_k (items q)) refl e
+finding_row at w s s' None belongs h e v f = absurd (not_refused (improper 6 at) s' e)
+finding_row at w s s' (Some q) belongs h e v f = by (constant_in_k (items q)) refl e
   where
     by : (c : Option ℤ) → constant_in_k (items q) ≡ c → (elim c as (λ _. TermSteps ProperTerm) [
       | Some z ↦ times_number at z w s
       | None ↦ times_polynomial at q w s
     ]).outcome ≡ Ok s' → IsTimes s s' v
     by (Some z) poly g = times_same s s' (λ p. whole_power (of_whole z) w) v (number_row at z w s s' h g)
-        (λ p. same_turned (same_chain (f q refl p) (same (ap (λ z. whole_power (of_whole z) w) (constant_value p q z poly)))))
+        (λ p. same_symmetric (same_chain (f q refl p) (same (ap (λ z. whole_power (of_whole z) w) (constant_value p q z poly)))))
     by None poly g = times_same s s' (λ p. whole_power (of_whole (poly_value q p)) w) v
-        (polynomial_row at q w s s' (record { belongs = belongs q refl; no_number = poly }) h g) (λ p. same_turned (f q refl p))
+        (polynomial_row at q w s s' (record { belongs = belongs q refl; no_number = poly }) h g) (λ p. same_symmetric (f q refl p))

@@ -14,24 +14,24 @@ use Rattle.hypergeometric.specs.ProperTerm.{ProperTerm, HasFractions}
 use Rattle.hypergeometric.specs.Divisors.{lowest_terms, raised_fraction}
 use Rattle.hypergeometric.specs.PrimitiveForm.{is_zero}
 use Rattle.hypergeometric.proofs.FractionLaws.{one_not_zero}
-use Rattle.hypergeometric.proofs.SameValues.{◌≅◌, same, same_chain, same_turned, same_defined, same_whole_powers}
+use Rattle.hypergeometric.proofs.SameValues.{◌≅◌, same, same_chain, same_symmetric, same_defined, same_whole_powers}
 use Rattle.hypergeometric.proofs.FractionPowers.{product_one}
 use Rattle.grammar.specs.Tree.{Tree, tree, Node, literal, variable_n, variable_k, sum_of, product_of, power_of, factorial_of, binomial_of, Parts, no_parts, part}
 use Rattle.term_classes.specs.TreePolynomial.{constant_of, tree_polynomial}
 use Rattle.term_classes.specs.TreeValue.{tree_value, node_value, product_value, part_power, factorial_power, at_whole, defined_power}
 use Rattle.term_classes.specs.Forms.{linear_form_of, limited_form, limited_exponent}
-use Rattle.term_classes.specs.Sought.{polynomial_sought, node_polynomial_sought, constant_sought}
-use Rattle.term_classes.specs.Walk.{with_scale, place_of, times_sought, form_or_refused, argument_sought, not_negative, with_factorial, base_or_refused, times_exponential, walk, walk_node, walk_parts}
+use Rattle.term_classes.specs.Finding.{find_polynomial, find_node_polynomial, find_constant}
+use Rattle.term_classes.specs.Walk.{with_scale, place_of, times_found, form_or_refused, find_argument, not_negative, with_factorial, base_or_refused, times_exponential, walk, walk_node, walk_parts}
 use Rattle.term_classes.proofs.PassingPolynomials.{node_belongs}
 use Rattle.term_classes.proofs.PolynomialValues.{node_has}
 use Rattle.term_classes.proofs.PolynomialParts.{power_value}
-use Rattle.term_classes.proofs.SoughtPolynomials.{sought_is, node_sought_is}
+use Rattle.term_classes.proofs.FindingPolynomials.{finding_is, find_node_is}
 use Rattle.term_classes.proofs.ConstantPowers.{not_zero}
 use Rattle.term_classes.proofs.ConstantValues.{constant_has}
 use Rattle.term_classes.proofs.TermProducts.{IsTimes, times_nothing, times_both, times_same}
 use Rattle.term_classes.proofs.FieldProducts.{scale_times}
 use Rattle.term_classes.proofs.WholeValues.{at_whole_value, defined_power_value}
-use Rattle.term_classes.proofs.WalkRows.{factorial_row, sought_row}
+use Rattle.term_classes.proofs.WalkRows.{factorial_row, finding_row}
 use Rattle.term_classes.proofs.ArgumentRows.{form_found, argument_found, exponential_row, binomial_row, skipped}
 
 -- what is shown of each tree
@@ -56,13 +56,13 @@ exponent_value base e w p = at_whole (λ z. defined_power (tree_value base (pos 
 
 -- an exponent that is no constant
 abbrev pub exponential_walk : ℕ → Tree → Tree → Option LinearForm → ℤ → ProperTerm → TermSteps ProperTerm
-exponential_walk at base e l w s = constant_sought base then (λ b. base_or_refused at b then (λ b1. form_or_refused 5 e l then (λ l.
+exponential_walk at base e l w s = find_constant base then (λ b. base_or_refused at b then (λ b1. form_or_refused 5 e l then (λ l.
     limited_exponent l then (λ l1. times_exponential at b1 l w s))))
 
 exponential_has : (at : ℕ) (base e : Tree) (poly : Option Meaning) (w : ℤ) (s s' : ProperTerm) → HasFractions s → tree_polynomial e ≡ poly
     → (exponential_walk at base e (linear_form_of poly) w s).outcome ≡ Ok s' → IsTimes s s' (exponent_value base e w)
 exponential_has at base e poly w s s' h is given =
-    let a = then_gave (constant_sought base) (λ b. base_or_refused at b then (λ b1. form_or_refused 5 e (linear_form_of poly) then (λ l.
+    let a = then_gave (find_constant base) (λ b. base_or_refused at b then (λ b1. form_or_refused 5 e (linear_form_of poly) then (λ l.
     limited_exponent l then (λ l1. times_exponential at b1 l w s)))) s' given in
     let b = then_gave (base_or_refused at a.value)
     (λ b1. form_or_refused 5 e (linear_form_of poly) then (λ l. limited_exponent l then (λ l1. times_exponential at b1 l w s))) s' a.second in
@@ -75,7 +75,7 @@ exponential_has at base e poly w s s' h is given =
     let base_value : (p : Point) → tree_value base (pos 1) p ≅ b.value = λ p. same_chain (constant.power (pos 1) p) (same (product_one b.value)) in
     times_same s s' (λ p. whole_power b.value (w *ℤ form_value c.value p)) (exponent_value base e w)
     (exponential_row at b.value c.value w s s' h (record { top = base_is.top; bottom = constant.defined }) d)
-    (λ p. same_turned (same_chain
+    (λ p. same_symmetric (same_chain
     (same (at_whole_value (λ z. defined_power (tree_value base (pos 1) p) (w *ℤ z)) (tree_value e (pos 1) p) (form_value c.value p) (form p)
     ∙ defined_power_value (tree_value base (pos 1) p) (w *ℤ form_value c.value p) ((same_defined (base_value p)).1 constant.defined)))
     (same_whole_powers (w *ℤ form_value c.value p) (base_value p))))
@@ -98,13 +98,13 @@ power_has at base e poly (Some c) w s s' h is given rest =
     (skipped (within_limit Exponent (unsigned_abs (w *ℤ c)) c) (if is_zero c then gives s else walk base (w *ℤ c) s) s' given)
 
 -- a literal, n, k or a sum
-sought_has : (at : ℕ) (node : Node) (w : ℤ) (s s' : ProperTerm) → HasFractions s
-    → (node_polynomial_sought at node then (times_sought at w s)).outcome ≡ Ok s'
+finding_has : (at : ℕ) (node : Node) (w : ℤ) (s s' : ProperTerm) → HasFractions s
+    → (find_node_polynomial at node then (times_found at w s)).outcome ≡ Ok s'
     → IsTimes s s' (node_value node w)
-sought_has at node w s s' h e =
-    let g = then_gave (node_polynomial_sought at node) (times_sought at w s) s' e in
-    sought_row at w s s' g.value (λ q f. node_belongs node q (node_sought_is at node g.value g.first ∙ f)) h g.second (node_value node w)
-    (λ q f p. node_has node q (node_sought_is at node g.value g.first ∙ f) w p)
+finding_has at node w s s' h e =
+    let g = then_gave (find_node_polynomial at node) (times_found at w s) s' e in
+    finding_row at w s s' g.value (λ q f. node_belongs node q (find_node_is at node g.value g.first ∙ f)) h g.second (node_value node w)
+    (λ q f p. node_has node q (find_node_is at node g.value g.first ∙ f) w p)
 
 pub minus_one_not_zero : negsuc 0 ≢ pos 0
 minus_one_not_zero e = omega (arith, ints, e)
@@ -115,26 +115,26 @@ mutual
 
   node_multiplies : (at : ℕ) (node : Node) (w : ℤ) (s s' : ProperTerm) → HasFractions s → (walk_node at node w s).outcome ≡ Ok s'
       → IsTimes s s' (node_value node w)
-  node_multiplies at (literal c) w s s' h e = sought_has at (literal c) w s s' h e
-  node_multiplies at variable_n w s s' h e = sought_has at variable_n w s s' h e
-  node_multiplies at variable_k w s s' h e = sought_has at variable_k w s s' h e
-  node_multiplies at (sum_of no_parts) w s s' h e = sought_has at (sum_of no_parts) w s s' h e
-  node_multiplies at (sum_of (part false t parts)) w s s' h e = sought_has at (sum_of (part false t parts)) w s s' h e
-  node_multiplies at (sum_of (part true t (part turned u parts))) w s s' h e = sought_has at (sum_of (part true t (part turned u parts))) w s s' h e
+  node_multiplies at (literal c) w s s' h e = finding_has at (literal c) w s s' h e
+  node_multiplies at variable_n w s s' h e = finding_has at variable_n w s s' h e
+  node_multiplies at variable_k w s s' h e = finding_has at variable_k w s s' h e
+  node_multiplies at (sum_of no_parts) w s s' h e = finding_has at (sum_of no_parts) w s s' h e
+  node_multiplies at (sum_of (part false t parts)) w s s' h e = finding_has at (sum_of (part false t parts)) w s s' h e
+  node_multiplies at (sum_of (part true t (part turned u parts))) w s s' h e = finding_has at (sum_of (part true t (part turned u parts))) w s s' h e
   node_multiplies at (sum_of (part true t no_parts)) w s s' h e =
       let r : ProperTerm = with_scale (lowest_terms (fraction_product s.scale (raised_fraction (of_whole (negsuc 0)) w))) s in
       let own = scale_times s h (of_whole (negsuc 0)) w (record { top = minus_one_not_zero; bottom = one_not_zero }) in
       times_both s r s' (λ p. whole_power (of_whole (negsuc 0)) w) (tree_value t w) own (walk_multiplies t w r s' own.fractions e)
   node_multiplies at (product_of parts) w s s' h e = parts_multiply parts w s s' h e
   node_multiplies at (power_of base e) w s s' h given =
-      let g = then_gave (polynomial_sought e) (λ own. elim (constant_of own) as (λ _. TermSteps ProperTerm) [
+      let g = then_gave (find_polynomial e) (λ own. elim (constant_of own) as (λ _. TermSteps ProperTerm) [
         | Some c ↦ within_limit Exponent (unsigned_abs (w *ℤ c)) c then (λ c1. if is_zero c then gives s else walk base (w *ℤ c) s)
         | None ↦ exponential_walk at base e (linear_form_of own) w s
       ]) s' given in
-      subst (λ q. IsTimes s s' (λ p. power_value base (constant_of q) w p (exponent_value base e w p))) (sym (sought_is e g.value g.first))
-      (power_has at base e g.value (constant_of g.value) w s s' h (sought_is e g.value g.first) g.second (walk_multiplies base))
+      subst (λ q. IsTimes s s' (λ p. power_value base (constant_of q) w p (exponent_value base e w p))) (sym (finding_is e g.value g.first))
+      (power_has at base e g.value (constant_of g.value) w s s' h (finding_is e g.value g.first) g.second (walk_multiplies base))
   node_multiplies at (factorial_of t) w s s' h e =
-      let g = then_gave (argument_sought t) (λ l. not_negative (place_of t) l then (λ l1. limited_form l then (λ l2. with_factorial l w s))) s' e in
+      let g = then_gave (find_argument t) (λ l. not_negative (place_of t) l then (λ l1. limited_form l then (λ l2. with_factorial l w s))) s' e in
       let i = skipped (not_negative (place_of t) g.value) (limited_form g.value then (λ l2. with_factorial g.value w s)) s' g.second in
       let j = skipped (limited_form g.value) (with_factorial g.value w s) s' i in
       times_same s s' (λ p. factorial_power w (form_value g.value p)) (node_value (factorial_of t) w) (factorial_row g.value w s s' h j)

@@ -2,7 +2,7 @@ pub mod NamesOfK
 pub mod TreePolynomial
 pub mod TreeValue
 pub mod Forms
-pub mod Sought
+pub mod Finding
 pub mod Walk
 pub mod Recurrence
 pub mod ClassValues

@@ -5,7 +5,7 @@ use Rattle.steps.specs.Steps.{gives, refuses, within_limit, ◌then◌}
 use Rattle.steps.specs.TermFaults.{improper, TermSteps}
 use Rattle.steps.specs.declared.limits.LimitName.TheVariants.{Order}
 use Rattle.grammar.specs.Tree.{Tree}
-use Rattle.term_classes.specs.Sought.{polynomial_sought}
+use Rattle.term_classes.specs.Finding.{find_polynomial}
 use Rattle.term_classes.specs.Walk.{place_of}
 use Rattle.term_classes.specs.NamesOfK.{place_of_k}
 
@@ -18,15 +18,15 @@ abbrev pub polynomial_or_refused : Tree → Option Meaning → TermSteps Meaning
 polynomial_or_refused t None = refuses (improper 6 (place_of t))
 polynomial_or_refused t (Some p) = gives (in_n_alone (items p))
 
-abbrev pub coefficient_sought : Tree → TermSteps Meaning
-coefficient_sought t = elim (place_of_k t) as (λ _. TermSteps Meaning) [
+abbrev pub find_coefficient : Tree → TermSteps Meaning
+find_coefficient t = elim (place_of_k t) as (λ _. TermSteps Meaning) [
   | Some at ↦ refuses (improper 8 at)
-  | None ↦ polynomial_sought t then (polynomial_or_refused t)
+  | None ↦ find_polynomial t then (polynomial_or_refused t)
 ]
 
-abbrev pub coefficients_sought : List Tree → TermSteps (List Meaning)
-coefficients_sought [] = gives []
-coefficients_sought (t ∷ ts) = coefficient_sought t then (λ p. coefficients_sought ts then (λ ps. gives (p ∷ ps)))
+abbrev pub find_coefficients : List Tree → TermSteps (List Meaning)
+find_coefficients [] = gives []
+find_coefficients (t ∷ ts) = find_coefficient t then (λ p. find_coefficients ts then (λ ps. gives (p ∷ ps)))
 
 -- a polynomial that is 0 is refused at its tree
 abbrev pub not_zero_at : Tree → Meaning → TermSteps Meaning
@@ -42,6 +42,6 @@ last_not_zero (t ∷ s ∷ ts) (p ∷ ps) = last_not_zero (s ∷ ts) ps then (λ
 last_not_zero ts ps = gives ps
 
 -- The polynomials of a recurrence of order at most 6, of which neither the first nor the last is 0.
-abbrev pub recurrence_sought : List Tree → TermSteps (List Meaning)
-recurrence_sought ts = within_limit Order (length ts - 1) ts then (λ ts1. coefficients_sought ts then (λ ps.
+abbrev pub find_recurrence : List Tree → TermSteps (List Meaning)
+find_recurrence ts = within_limit Order (length ts - 1) ts then (λ ts1. find_coefficients ts then (λ ps.
     first_not_zero ts ps then (λ ps1. last_not_zero ts ps)))

@@ -21,7 +21,7 @@ use Rattle.grammar.specs.Tree.{Tree, tree, Node, sum_of, product_of, power_of, f
 use Rattle.term_classes.specs.TreePolynomial.{constant_of}
 use Rattle.term_classes.specs.TreeValue.{part_power}
 use Rattle.term_classes.specs.Forms.{linear_form_of, limited_form, limited_exponent}
-use Rattle.term_classes.specs.Sought.{polynomial_sought, node_polynomial_sought, constant_sought, size_raised}
+use Rattle.term_classes.specs.Finding.{find_polynomial, find_node_polynomial, find_constant, size_raised}
 
 -- the term 1
 abbrev pub unit_term : ProperTerm
@@ -82,9 +82,9 @@ times_polynomial at p (negsuc w) f = elim (linear_form_of (Some p)) as (λ _. Te
 ]
 
 -- a literal, n, k or a sum, to the power w
-abbrev pub times_sought : ℕ → ℤ → ProperTerm → Option Meaning → TermSteps ProperTerm
-times_sought at w f None = refuses (improper 6 at)
-times_sought at w f (Some p) = elim (constant_in_k (items p)) as (λ _. TermSteps ProperTerm) [
+abbrev pub times_found : ℕ → ℤ → ProperTerm → Option Meaning → TermSteps ProperTerm
+times_found at w f None = refuses (improper 6 at)
+times_found at w f (Some p) = elim (constant_in_k (items p)) as (λ _. TermSteps ProperTerm) [
   | Some z ↦ times_number at z w f
   | None ↦ times_polynomial at p w f
 ]
@@ -94,8 +94,8 @@ abbrev pub form_or_refused : ℕ → Tree → Option LinearForm → TermSteps Li
 form_or_refused reason t None = refuses (improper reason (place_of t))
 form_or_refused reason t (Some l) = gives l
 
-abbrev pub argument_sought : Tree → TermSteps LinearForm
-argument_sought t = polynomial_sought t then (λ p. form_or_refused 1 t (linear_form_of p))
+abbrev pub find_argument : Tree → TermSteps LinearForm
+find_argument t = find_polynomial t then (λ p. form_or_refused 1 t (linear_form_of p))
 
 -- an argument that is a negative constant is refused
 abbrev pub not_negative : ℕ → LinearForm → TermSteps LinearForm
@@ -116,7 +116,7 @@ base_or_refused at (Some b) = if is_zero b.top then refuses (improper 4 at) else
 -- The binomial coefficient of L and M is L! / (M! * (L - M)!).
 abbrev pub times_binomial : ℕ → Tree → Tree → ℤ → ProperTerm → TermSteps ProperTerm
 times_binomial at upper lower w f =
-    argument_sought upper then (λ l. argument_sought lower then (λ m.
+    find_argument upper then (λ l. find_argument lower then (λ m.
     not_negative (place_of upper) l then (λ l1. not_negative (place_of lower) m then (λ m1.
     makes at (of_number (difference_size l m)) (form_difference l m) then (λ d. not_negative at d then (λ d1.
     limited_form l then (λ l2. limited_form m then (λ m2. limited_form d then (λ d2.
@@ -130,15 +130,15 @@ abbrev mutual
   walk_node at (product_of parts) w f = walk_parts parts w f
   walk_node at (sum_of (part true t no_parts)) w f =
       walk t w (with_scale (lowest_terms (fraction_product f.scale (raised_fraction (of_whole (negsuc 0)) w))) f)
-  walk_node at (power_of base e) w f = polynomial_sought e then (λ p. elim (constant_of p) as (λ _. TermSteps ProperTerm) [
+  walk_node at (power_of base e) w f = find_polynomial e then (λ p. elim (constant_of p) as (λ _. TermSteps ProperTerm) [
     | Some c ↦ within_limit Exponent (unsigned_abs (w *ℤ c)) c then (λ c1. if is_zero c then gives f else walk base (w *ℤ c) f)
-    | None ↦ constant_sought base then (λ b. base_or_refused at b then (λ b1. form_or_refused 5 e (linear_form_of p) then (λ l.
+    | None ↦ find_constant base then (λ b. base_or_refused at b then (λ b1. form_or_refused 5 e (linear_form_of p) then (λ l.
         limited_exponent l then (λ l1. times_exponential at b1 l w f))))
   ])
-  walk_node at (factorial_of t) w f = argument_sought t then (λ l. not_negative (place_of t) l then (λ l1.
+  walk_node at (factorial_of t) w f = find_argument t then (λ l. not_negative (place_of t) l then (λ l1.
       limited_form l then (λ l2. with_factorial l w f)))
   walk_node at (binomial_of upper lower) w f = times_binomial at upper lower w f
-  walk_node at node w f = node_polynomial_sought at node then (times_sought at w f)
+  walk_node at node w f = find_node_polynomial at node then (times_found at w f)
 
   -- with the opposite power for a part that is divided by
   pub walk_parts : Parts → ℤ → ProperTerm → TermSteps ProperTerm

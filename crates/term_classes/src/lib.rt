@@ -2,7 +2,7 @@
 //!
 //! `specs/` has the definitions, `proofs/` the laws that the crates above cite. The functions here do nothing: the contract of each is a law.
 //! Read `specs/TreePolynomial.antt` and `specs/TreeValue.antt` (what a tree is worth),
-//! `specs/Refusals.antt`, `specs/Steps.antt`, `specs/Sought.antt` (the polynomial and the constant of a tree), then `specs/Walk.antt`
+//! `specs/Refusals.antt`, `specs/Steps.antt`, `specs/Finding.antt` (the polynomial and the constant of a tree), then `specs/Walk.antt`
 //! (the class), and `specs/ClassValues.antt` (what it means that a term has the value of a tree).
 #![tactic(auto)]
 

@@ -14,11 +14,11 @@ use Rattle.hypergeometric.specs.Fraction.{Fraction, IsDefined, ◌≈◌, of_who
 use Rattle.hypergeometric.specs.ProperTerm.{IsNonzero, ProperTerm, HasFractions, poly_value}
 use Rattle.hypergeometric.specs.Divisors.{lowest_terms}
 use Rattle.hypergeometric.proofs.Definedness.{natural_power_defined, whole_power_defined}
-use Rattle.hypergeometric.proofs.FractionLaws.{one_not_zero, product_not_zero, equal_to_itself, equal_turned, equal_chain, equal_products}
+use Rattle.hypergeometric.proofs.FractionLaws.{one_not_zero, product_not_zero, equal_to_itself, equal_symmetric, equal_chain, equal_products}
 use Rattle.hypergeometric.proofs.FractionPowers.{fraction_same, one_product, product_one, product_comm, product_assoc}
 use Rattle.hypergeometric.proofs.LowestTerms.{lowest_same}
 use Rattle.hypergeometric.proofs.NonzeroPowers.{inverse_cancels, itself_then_inverse}
-use Rattle.hypergeometric.proofs.SameValues.{same_turned, same_equal, same_chain, same}
+use Rattle.hypergeometric.proofs.SameValues.{same_symmetric, same_equal, same_chain, same}
 use Rattle.term_pieces.specs.Pieces.{poly_at_later_n, top_number}
 use Rattle.term_pieces.proofs.ProductValues.{pow_of_sum}
 use Rattle.term_pieces.proofs.Splits.{Splits, times_common}
@@ -39,12 +39,12 @@ next_power f (pos n) h =
     let up : pos n +ℤ pos 1 ≡ pos (suc n) = omega (arith, ints) in
     subst (λ z. whole_power f z ≈ natural_power f (suc n)) (sym up) (equal_to_itself (natural_power f (suc n)) (whole_power_defined f (pos (suc n)) h))
 next_power f (negsuc zero) h =
-    same_equal (same_turned (same_chain (same (ap (fraction_product f) (product_one (fraction_inverse f)) ∙ product_comm f (fraction_inverse f)))
+    same_equal (same_symmetric (same_chain (same (ap (fraction_product f) (product_one (fraction_inverse f)) ∙ product_comm f (fraction_inverse f)))
     (inverse_cancels f h))) one_not_zero
 next_power f (negsuc (suc n)) h =
     let up : negsuc (suc n) +ℤ pos 1 ≡ negsuc n = omega (arith, ints) in
     subst (λ z. whole_power f z ≈ fraction_product f (whole_power f (negsuc (suc n)))) (sym up)
-    (same_equal (same_turned (itself_then_inverse f (natural_power (fraction_inverse f) (suc n)) h)) (whole_power_defined f (negsuc n) h))
+    (same_equal (same_symmetric (itself_then_inverse f (natural_power (fraction_inverse f) (suc n)) h)) (whole_power_defined f (negsuc n) h))
 
 pub later_power : (f : Fraction) (z : ℤ) (j : ℕ) → IsNonzero f → whole_power f (z +ℤ pos j) ≈ fraction_product (natural_power f j) (whole_power f z)
 later_power f z zero h =
@@ -131,7 +131,7 @@ module _ (f : ProperTerm) (order : ℕ) (p : Point) (parts : HasFractions f) whe
       let whole : Fraction = record { top = f.scale.top *ℤ f.k_base.bottom; bottom = f.scale.bottom *ℤ x_v } in
       let defined : IsDefined whole = product_not_zero f.scale.bottom x_v parts.scale.bottom x_v_some in
       subst (λ z. carrier_scale ≈ z) (fraction_same (turned f.scale.top f.k_base.bottom) (one_times (f.scale.bottom *ℤ x_v)))
-      (equal_turned (same_equal (same_turned (lowest_same whole defined)) defined))
+      (equal_symmetric (same_equal (same_symmetric (lowest_same whole defined)) defined))
     where
       turned : (s y : ℤ) → s *ℤ y ≡ y *ℤ (s *ℤ pos 1)
       turned s y = ring_z (s ∷ y ∷ []) (search reading_z depth 40 fits 20000) refl

@@ -11,7 +11,7 @@ use Rattle.hypergeometric.specs.ProperTerm.{ProperTerm}
 use Rattle.hypergeometric.specs.Forms.{form_difference, difference_size}
 use Rattle.grammar.specs.Tree.{Tree}
 use Rattle.term_classes.specs.Forms.{limited_form}
-use Rattle.term_classes.specs.Walk.{place_of, argument_sought, not_negative, with_factorial, times_binomial}
+use Rattle.term_classes.specs.Walk.{place_of, find_argument, not_negative, with_factorial, times_binomial}
 use Rattle.term_text.specs.View.{tree_of}
 use Rattle.term_text.specs.declared.ast.Ast.{Ast}
 use Rattle.term_text.proofs.Views.{tree_of-at}
@@ -25,21 +25,21 @@ lower_left at lower_at l m w f = not_negative lower_at m then (λ m1. difference
 abbrev pub forms_left : ℕ → ℕ → ℕ → LinearForm → LinearForm → ℤ → ProperTerm → TermSteps ProperTerm
 forms_left at upper_at lower_at l m w f = not_negative upper_at l then (λ l1. lower_left at lower_at l m w f)
 
-abbrev pub lower_sought : ℕ → Tree → Tree → LinearForm → ℤ → ProperTerm → TermSteps ProperTerm
-lower_sought at upper lower l w f = argument_sought lower then (λ m. forms_left at (place_of upper) (place_of lower) l m w f)
+abbrev pub find_lower : ℕ → Tree → Tree → LinearForm → ℤ → ProperTerm → TermSteps ProperTerm
+find_lower at upper lower l w f = find_argument lower then (λ m. forms_left at (place_of upper) (place_of lower) l m w f)
 
-pub upper_leads : (at : ℕ) (upper lower : Tree) (w : ℤ) (f : ProperTerm) (l : LinearForm) → (argument_sought upper).outcome ≡ Ok l
-    → Leads (times_binomial at upper lower w f) (lower_sought at upper lower l w f)
-upper_leads at upper lower w f l e = leads (argument_sought upper) (λ l. lower_sought at upper lower l w f) l e
+pub upper_leads : (at : ℕ) (upper lower : Tree) (w : ℤ) (f : ProperTerm) (l : LinearForm) → (find_argument upper).outcome ≡ Ok l
+    → Leads (times_binomial at upper lower w f) (find_lower at upper lower l w f)
+upper_leads at upper lower w f l e = leads (find_argument upper) (λ l. find_lower at upper lower l w f) l e
 
 -- both forms, at the places of their trees
 pub record AreFound (upper lower : Tree) (upper_at lower_at : ℕ) (l m : LinearForm) : Type 0 where
   pub upper_place : place_of upper ≡ upper_at
   pub lower_place : place_of lower ≡ lower_at
-  pub upper_found : (argument_sought upper).outcome ≡ Ok l
-  pub lower_found : (argument_sought lower).outcome ≡ Ok m
+  pub upper_found : (find_argument upper).outcome ≡ Ok l
+  pub lower_found : (find_argument lower).outcome ≡ Ok m
 
-pub are_found : (a b : Ast) (l m : LinearForm) → (argument_sought (tree_of a)).outcome ≡ Ok l → (argument_sought (tree_of b)).outcome ≡ Ok m
+pub are_found : (a b : Ast) (l m : LinearForm) → (find_argument (tree_of a)).outcome ≡ Ok l → (find_argument (tree_of b)).outcome ≡ Ok m
     → AreFound (tree_of a) (tree_of b) a.at b.at l m
 are_found a b l m e h = record {
   upper_place = ap place_of (tree_of-at a);
@@ -54,7 +54,7 @@ found_leads at upper lower w f upper_at lower_at l m h =
     subst (λ a. Leads (times_binomial at upper lower w f) (forms_left at a lower_at l m w f)) h.upper_place
     (subst (λ a. Leads (times_binomial at upper lower w f) (forms_left at (place_of upper) a l m w f)) h.lower_place
     (leads_on (upper_leads at upper lower w f l h.upper_found)
-    (leads (argument_sought lower) (λ m. forms_left at (place_of upper) (place_of lower) l m w f) m h.lower_found)))
+    (leads (find_argument lower) (λ m. forms_left at (place_of upper) (place_of lower) l m w f) m h.lower_found)))
 
 pub upper_kept : (at upper_at lower_at : ℕ) (w : ℤ) (f : ProperTerm) (l m l1 : LinearForm) → (not_negative upper_at l).outcome ≡ Ok l1
     → Leads (forms_left at upper_at lower_at l m w f) (lower_left at lower_at l m w f)

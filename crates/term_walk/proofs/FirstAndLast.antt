@@ -14,7 +14,7 @@ use Rattle.steps.proofs.AnswerLaws.{first_cause, later_cause, later_outcome}
 use Rattle.steps.proofs.StepLaws.{limit_kept}
 use Rattle.poly_generic.specs.declared.polys.Poly.{Poly}
 use Rattle.grammar.specs.Tree.{Tree}
-use Rattle.term_classes.specs.Recurrence.{coefficients_sought, not_zero_at, first_not_zero, last_not_zero, recurrence_sought}
+use Rattle.term_classes.specs.Recurrence.{find_coefficients, not_zero_at, first_not_zero, last_not_zero, find_recurrence}
 use Rattle.term_text.specs.View.{tree_of}
 use Rattle.term_text.specs.declared.ast.Ast.{Ast}
 use Rattle.term_walk.proofs.RecurrenceLaws.{polynomial_in_n}
@@ -24,28 +24,28 @@ module _ (ts : List Tree) (few : length ts - 1 ≤ 6) where
   abbrev from_coefficients : List Meaning → TermSteps (List Meaning)
   from_coefficients ps = first_not_zero ts ps then (λ _. last_not_zero ts ps)
 
-  pub coefficients_fault : (fault : TermFault) → HasCause (coefficients_sought ts) (term_cause fault)
-      → HasCause (recurrence_sought ts) (term_cause fault)
+  pub coefficients_fault : (fault : TermFault) → HasCause (find_coefficients ts) (term_cause fault)
+      → HasCause (find_recurrence ts) (term_cause fault)
   coefficients_fault fault h =
-      later_cause (within_limit Order (length ts - 1) ts) (λ _. coefficients_sought ts then from_coefficients) ts (term_cause fault)
-      (limit_kept Order (length ts - 1) ts few) (first_cause (coefficients_sought ts) from_coefficients (term_cause fault) h)
+      later_cause (within_limit Order (length ts - 1) ts) (λ _. find_coefficients ts then from_coefficients) ts (term_cause fault)
+      (limit_kept Order (length ts - 1) ts few) (first_cause (find_coefficients ts) from_coefficients (term_cause fault) h)
 
-  module _ (ps : List Meaning) (found : (coefficients_sought ts).outcome ≡ Ok ps) where
-    tested : (fault : TermFault) → HasCause (from_coefficients ps) (term_cause fault) → HasCause (recurrence_sought ts) (term_cause fault)
+  module _ (ps : List Meaning) (found : (find_coefficients ts).outcome ≡ Ok ps) where
+    tested : (fault : TermFault) → HasCause (from_coefficients ps) (term_cause fault) → HasCause (find_recurrence ts) (term_cause fault)
     tested fault h =
-        later_cause (within_limit Order (length ts - 1) ts) (λ _. coefficients_sought ts then from_coefficients) ts (term_cause fault)
-        (limit_kept Order (length ts - 1) ts few) (later_cause (coefficients_sought ts) from_coefficients ps (term_cause fault) found h)
+        later_cause (within_limit Order (length ts - 1) ts) (λ _. find_coefficients ts then from_coefficients) ts (term_cause fault)
+        (limit_kept Order (length ts - 1) ts few) (later_cause (find_coefficients ts) from_coefficients ps (term_cause fault) found h)
 
     pub last_fault : (fault : TermFault) → (first_not_zero ts ps).outcome ≡ Ok ps → HasCause (last_not_zero ts ps) (term_cause fault)
-        → HasCause (recurrence_sought ts) (term_cause fault)
+        → HasCause (find_recurrence ts) (term_cause fault)
     last_fault fault first h = tested fault (later_cause (first_not_zero ts ps) (λ _. last_not_zero ts ps) ps (term_cause fault) first h)
 
     pub recurrence_found : (first_not_zero ts ps).outcome ≡ Ok ps → (last_not_zero ts ps).outcome ≡ Ok ps
-        → (recurrence_sought ts).outcome ≡ Ok ps
+        → (find_recurrence ts).outcome ≡ Ok ps
     recurrence_found first last =
-        later_outcome (within_limit Order (length ts - 1) ts) (λ _. coefficients_sought ts then from_coefficients) ts (Ok ps)
+        later_outcome (within_limit Order (length ts - 1) ts) (λ _. find_coefficients ts then from_coefficients) ts (Ok ps)
         (limit_kept Order (length ts - 1) ts few)
-        (later_outcome (coefficients_sought ts) from_coefficients ps (Ok ps) found
+        (later_outcome (find_coefficients ts) from_coefficients ps (Ok ps) found
         (later_outcome (first_not_zero ts ps) (λ _. last_not_zero ts ps) ps (Ok ps) first last))
 
 -- the first tree and its polynomial
@@ -97,7 +97,7 @@ mapped_at f (y ∷ xs) (suc i) x h e = mapped_at f xs i x (omega (arith, h)) e
 -- the two tests of the code
 module _ (trees : List Ast) (coefficients : List (Poly Whole ghosts)) (two : 2 ≤ length trees) (few : length trees - 1 ≤ 6)
     (as_many : length coefficients ≡ length trees)
-    (found : (coefficients_sought (map tree_of trees)).outcome ≡ Ok (map polynomial_in_n coefficients))
+    (found : (find_coefficients (map tree_of trees)).outcome ≡ Ok (map polynomial_in_n coefficients))
     (t : Ast) (p : Poly Whole ghosts) (tree_there : t ≡ get_or trees 0 t) (coefficient_there : p ≡ get_or coefficients 0 p)
     (kept : (not_zero_at (tree_of t) (polynomial_in_n p)).outcome ≡ Ok (polynomial_in_n p))
     (last_t : Ast) (last_p : Poly Whole ghosts) (last_tree_there : last_t ≡ get_or trees (length trees - 1) last_t)
@@ -130,14 +130,14 @@ module _ (trees : List Ast) (coefficients : List (Poly Whole ghosts)) (two : 2 �
 
   -- the last is 0
   pub last_refused : (fault : TermFault) → HasCause (not_zero_at (tree_of last_t) (polynomial_in_n last_p)) (term_cause fault)
-      → HasCause (recurrence_sought ts) (term_cause fault)
+      → HasCause (find_recurrence ts) (term_cause fault)
   last_refused fault h = last_fault ts few_trees ps found fault first_kept
       (last_cause_at ts ps (length trees - 1) (tree_of last_t) (polynomial_in_n last_p) as_many_trees as_many_polynomials
       last_tree last_polynomial fault h)
 
   -- neither is
   pub both_kept : (not_zero_at (tree_of last_t) (polynomial_in_n last_p)).outcome ≡ Ok (polynomial_in_n last_p)
-      → (recurrence_sought ts).outcome ≡ Ok ps
+      → (find_recurrence ts).outcome ≡ Ok ps
   both_kept h = recurrence_found ts few_trees ps found first_kept
       (last_kept_at ts ps (length trees - 1) (tree_of last_t) (polynomial_in_n last_p) as_many_trees as_many_polynomials
       last_tree last_polynomial h)

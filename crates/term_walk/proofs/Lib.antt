@@ -5,7 +5,7 @@ pub mod ScaleSteps
 pub mod OverPolynomials
 pub mod LowestFields
 pub mod CodePowers
-pub mod SoughtPowers
+pub mod FindingPowers
 pub mod UnitTerms
 pub mod FormContents
 pub mod CancelledLists

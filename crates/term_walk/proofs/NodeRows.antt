@@ -7,8 +7,8 @@ use Rattle.steps.specs.TermFaults.{TermSteps, term_cause}
 use Rattle.steps.specs.declared.faults.TermFault.{TermFault}
 use Rattle.hypergeometric.specs.ProperTerm.{ProperTerm}
 use Rattle.grammar.specs.Tree as d
-use Rattle.term_classes.specs.Sought.{polynomial_sought}
-use Rattle.term_classes.specs.Walk.{place_of, times_sought, walk, walk_node, walk_parts}
+use Rattle.term_classes.specs.Finding.{find_polynomial}
+use Rattle.term_classes.specs.Walk.{place_of, times_found, walk, walk_node, walk_parts}
 use Rattle.term_text.specs.View.{tree_of, node_of, part_of, parts_of}
 use Rattle.term_text.specs.declared.ast.Ast.{Ast}
 use Rattle.term_text.specs.declared.ast.Node.{Node}
@@ -28,16 +28,16 @@ pub at_node : (a : Ast) (node : Node) (n : d.Node) (w : ℤ) (f : ProperTerm) (r
 at_node a node n w f result e h known = subst (λ t. Answers term_cause gathered_of (walk t w f) result) (sym (tree_with a node n e h)) known
 
 -- the row of what is sought as a polynomial
-abbrev pub sought : d.Tree → ℤ → ProperTerm → TermSteps ProperTerm
-sought t w f = polynomial_sought t then (times_sought (place_of t) w f)
+abbrev pub finding : d.Tree → ℤ → ProperTerm → TermSteps ProperTerm
+finding t w f = find_polynomial t then (times_found (place_of t) w f)
 
 -- what is sought as a polynomial
 pub leaf_answer : (a : Ast) (node : Node) (n : d.Node) (w : ℤ) (f : ProperTerm) (result : Result Gathered TermFault) → a.node ≡ node
-    → node_of node ≡ n → sought (d.tree a.at n) w f ≡ walk_node a.at n w f → Answers term_cause gathered_of (sought (tree_of a) w f) result
+    → node_of node ≡ n → finding (d.tree a.at n) w f ≡ walk_node a.at n w f → Answers term_cause gathered_of (finding (tree_of a) w f) result
     → Answers term_cause gathered_of (walk (tree_of a) w f) result
 leaf_answer a node n w f result e h same known = at_node a node n w f result e h
     (subst (λ s. Answers term_cause gathered_of s result) same
-    (subst (λ t. Answers term_cause gathered_of (sought t w f) result) (tree_with a node n e h) known))
+    (subst (λ t. Answers term_cause gathered_of (finding t w f) result) (tree_with a node n e h) known))
 
 -- the parts of a product
 pub product_answer : (a : Ast) (ps ps' : List Part) (w : ℤ) (f : ProperTerm) (result : Result Gathered TermFault) → a.node ≡ Product ps → ps' ≡ ps
@@ -72,7 +72,7 @@ many_parts (p ∷ q ∷ ps) many = two (part_of p) (part_of q) (parts_of ps)
     two (false, t) y parts = refl
 
 -- any other sum is sought as a polynomial
-plain_row : (at : ℕ) (parts : d.Parts) (w : ℤ) (f : ProperTerm) → is_one_turned parts ≡ false → sought (d.tree at (d.sum_of parts)) w f
+plain_row : (at : ℕ) (parts : d.Parts) (w : ℤ) (f : ProperTerm) → is_one_turned parts ≡ false → finding (d.tree at (d.sum_of parts)) w f
     ≡ walk_node at (d.sum_of parts) w f
 plain_row at d.no_parts w f h = refl
 plain_row at (d.part false t parts) w f h = refl
@@ -80,7 +80,7 @@ plain_row at (d.part true t (d.part turned u parts)) w f h = refl
 plain_row at (d.part true t d.no_parts) w f h = cc
 
 pub plain_sum : (a : Ast) (ps : List Part) (w : ℤ) (f : ProperTerm) (result : Result Gathered TermFault) → a.node ≡ Sum ps
-    → is_one_turned (parts_of ps) ≡ false → Answers term_cause gathered_of (sought (tree_of a) w f) result
+    → is_one_turned (parts_of ps) ≡ false → Answers term_cause gathered_of (finding (tree_of a) w f) result
     → Answers term_cause gathered_of (walk (tree_of a) w f) result
 plain_sum a ps w f result e plain known =
     leaf_answer a (Sum ps) (d.sum_of (parts_of ps)) w f result e (node_of-sum ps) (plain_row a.at (parts_of ps) w f plain) known

@@ -14,7 +14,7 @@ use Rattle.steps.specs.Operations.{of_polynomial}
 use Rattle.steps.specs.TermFaults.{fault_of, term_cause}
 use Rattle.steps.proofs.AnswerLaws.{ring_cause, made_too_large}
 use Rattle.hypergeometric.specs.ProperTerm.{ProperTerm}
-use Rattle.term_classes.specs.Sought.{size_raised}
+use Rattle.term_classes.specs.Finding.{size_raised}
 use Rattle.term_classes.specs.Walk.{with_poly, times_polynomial}
 use Rattle.term_classes.proofs.PassingPolynomials.{Belongs, power_belongs, product_not_nought, power_not_nought}
 use Rattle.term_classes.proofs.VaryingForms.{IsVarying, varying_not_nought}

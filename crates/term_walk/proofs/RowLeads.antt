@@ -15,26 +15,26 @@ use Rattle.hypergeometric.specs.LinearForm.{LinearForm}
 use Rattle.hypergeometric.specs.ProperTerm.{ProperTerm}
 use Rattle.grammar.specs.Tree.{Tree}
 use Rattle.term_classes.specs.Forms.{limited_form, limited_exponent}
-use Rattle.term_classes.specs.Sought.{polynomial_sought, constant_sought}
-use Rattle.term_classes.specs.Walk.{place_of, argument_sought, not_negative, base_or_refused, form_or_refused, with_factorial, times_exponential, times_sought}
+use Rattle.term_classes.specs.Finding.{find_polynomial, find_constant}
+use Rattle.term_classes.specs.Walk.{place_of, find_argument, not_negative, base_or_refused, form_or_refused, with_factorial, times_exponential, times_found}
 use Rattle.term_walk.specs.WalkRows.{exponential_left}
 use Rattle.term_walk.proofs.LimitedForms.{form_given}
 
 -- a polynomial, at the place of its tree
-pub sought_leads : (t : Tree) (at : ℕ) (w : ℤ) (f : ProperTerm) (p : Option Meaning) → place_of t ≡ at → (polynomial_sought t).outcome ≡ Ok p
-    → Leads (polynomial_sought t then (times_sought (place_of t) w f)) (times_sought at w f p)
-sought_leads t at w f p place e = subst (λ at. Leads (polynomial_sought t then (times_sought (place_of t) w f)) (times_sought at w f p)) place
-    (leads (polynomial_sought t) (times_sought (place_of t) w f) p e)
+pub finding_leads : (t : Tree) (at : ℕ) (w : ℤ) (f : ProperTerm) (p : Option Meaning) → place_of t ≡ at → (find_polynomial t).outcome ≡ Ok p
+    → Leads (find_polynomial t then (times_found (place_of t) w f)) (times_found at w f p)
+finding_leads t at w f p place e = subst (λ at. Leads (find_polynomial t then (times_found (place_of t) w f)) (times_found at w f p)) place
+    (leads (find_polynomial t) (times_found (place_of t) w f) p e)
 
 -- a factorial: its argument is found, is no negative number, and is within the limits
 abbrev pub factorial_row : Tree → ℤ → ProperTerm → TermSteps ProperTerm
-factorial_row t w f = argument_sought t then (λ l. not_negative (place_of t) l then (λ l1. limited_form l then (λ l2. with_factorial l w f)))
+factorial_row t w f = find_argument t then (λ l. not_negative (place_of t) l then (λ l1. limited_form l then (λ l2. with_factorial l w f)))
 
-pub argument_leads : (t : Tree) (at : ℕ) (w : ℤ) (f : ProperTerm) (l : LinearForm) → place_of t ≡ at → (argument_sought t).outcome ≡ Ok l
+pub argument_leads : (t : Tree) (at : ℕ) (w : ℤ) (f : ProperTerm) (l : LinearForm) → place_of t ≡ at → (find_argument t).outcome ≡ Ok l
     → Leads (factorial_row t w f) (not_negative at l then (λ l1. limited_form l then (λ l2. with_factorial l w f)))
 argument_leads t at w f l place e =
     subst (λ at. Leads (factorial_row t w f) (not_negative at l then (λ l1. limited_form l then (λ l2. with_factorial l w f)))) place
-    (leads (argument_sought t) (λ l. not_negative (place_of t) l then (λ l1. limited_form l then (λ l2. with_factorial l w f))) l e)
+    (leads (find_argument t) (λ l. not_negative (place_of t) l then (λ l1. limited_form l then (λ l2. with_factorial l w f))) l e)
 
 pub kept_leads : (at : ℕ) (w : ℤ) (f : ProperTerm) (l l1 : LinearForm) → (not_negative at l).outcome ≡ Ok l1
     → Leads (not_negative at l then (λ l1. limited_form l then (λ l2. with_factorial l w f))) (limited_form l then (λ l2. with_factorial l w f))
@@ -64,23 +64,23 @@ limits_told at w f b l = limited_exponent l then (λ l1. times_exponential at b 
 
 -- what its first steps gave
 pub record HasBase (at : ℕ) (base : Tree) (b : Option Fraction) (b1 : Fraction) : Type 0 where
-  pub found : (constant_sought base).outcome ≡ Ok b
+  pub found : (find_constant base).outcome ≡ Ok b
   pub nonzero : (base_or_refused at b).outcome ≡ Ok b1
 
 pub constant_refused : (at : ℕ) (base e : Tree) (form : Option LinearForm) (w : ℤ) (f : ProperTerm) (x : TermFault)
-    → HasCause (constant_sought base) (term_cause x) → HasCause (exponential_left at base e form w f) (term_cause x)
-constant_refused at base e form w f x h = first_cause (constant_sought base) (base_told at e form w f) (term_cause x) h
+    → HasCause (find_constant base) (term_cause x) → HasCause (exponential_left at base e form w f) (term_cause x)
+constant_refused at base e form w f x h = first_cause (find_constant base) (base_told at e form w f) (term_cause x) h
 
 pub base_refused : (at : ℕ) (base e : Tree) (form : Option LinearForm) (w : ℤ) (f : ProperTerm) (b : Option Fraction) (x : TermFault)
-    → (constant_sought base).outcome ≡ Ok b → HasCause (base_or_refused at b) (term_cause x)
+    → (find_constant base).outcome ≡ Ok b → HasCause (base_or_refused at b) (term_cause x)
     → HasCause (exponential_left at base e form w f) (term_cause x)
 base_refused at base e form w f b x found h =
-    later_cause (constant_sought base) (base_told at e form w f) b (term_cause x) found
+    later_cause (find_constant base) (base_told at e form w f) b (term_cause x) found
     (first_cause (base_or_refused at b) (form_told at e form w f) (term_cause x) h)
 
 base_leads : (at : ℕ) (base e : Tree) (form : Option LinearForm) (w : ℤ) (f : ProperTerm) (b : Option Fraction) (b1 : Fraction)
     → HasBase at base b b1 → Leads (exponential_left at base e form w f) (form_told at e form w f b1)
-base_leads at base e form w f b b1 h = leads_on (leads (constant_sought base) (base_told at e form w f) b h.found)
+base_leads at base e form w f b b1 h = leads_on (leads (find_constant base) (base_told at e form w f) b h.found)
     (leads (base_or_refused at b) (form_told at e form w f) b1 h.nonzero)
 
 pub form_refused : (at : ℕ) (base e : Tree) (form : Option LinearForm) (w : ℤ) (f : ProperTerm) (b : Option Fraction) (b1 : Fraction) (x : TermFault)

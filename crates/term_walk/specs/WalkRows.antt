@@ -13,7 +13,7 @@ use Rattle.hypergeometric.specs.Forms.{form_difference, difference_size}
 use Rattle.grammar.specs.Tree.{Tree, Parts, no_parts, part}
 use Rattle.term_classes.specs.TreePolynomial.{constant_of}
 use Rattle.term_classes.specs.Forms.{linear_form_of, limited_form, limited_exponent}
-use Rattle.term_classes.specs.Sought.{polynomial_sought, constant_sought}
+use Rattle.term_classes.specs.Finding.{find_polynomial, find_constant}
 use Rattle.term_classes.specs.Walk as w
 use Rattle.term_walk.specs.Views.{wide_form_of}
 use Rattle.term_walk.specs.declared.exponents.Exponent.{Exponent}
@@ -40,8 +40,8 @@ exponent_told power p = elim (constant_of p) as (λ _. TermSteps ExponentKind) [
   | None ↦ gives (varying (linear_form_of p))
 ]
 
-abbrev pub exponent_sought : Tree → ℤ → TermSteps ExponentKind
-exponent_sought t power = polynomial_sought t then (exponent_told power)
+abbrev pub find_exponent : Tree → ℤ → TermSteps ExponentKind
+find_exponent t power = find_polynomial t then (exponent_told power)
 
 -- exactly one part, which is turned
 abbrev pub is_one_turned : Parts → Bool
@@ -50,7 +50,7 @@ is_one_turned parts = false
 
 -- a power whose exponent is no constant
 abbrev pub exponential_left : ℕ → Tree → Tree → Option LinearForm → ℤ → ProperTerm → TermSteps ProperTerm
-exponential_left at base e form power f = constant_sought base then (λ b. w.base_or_refused at b then (λ b1.
+exponential_left at base e form power f = find_constant base then (λ b. w.base_or_refused at b then (λ b1.
     w.form_or_refused 5 e form then (λ l. limited_exponent l then (λ l1. w.times_exponential at b1 l power f))))
 
 abbrev pub power_left : ℕ → Tree → Tree → ℤ → ProperTerm → ExponentKind → TermSteps ProperTerm

@@ -2,7 +2,7 @@
 
 ghost use Rattle.std.specs.Prelude.{◌≡◌};
 ghost use Rattle.term_text.specs.View.{tree_of};
-ghost use Rattle.term_classes.specs.Walk.{argument_sought, form_or_refused, not_negative};
+ghost use Rattle.term_classes.specs.Walk.{find_argument, form_or_refused, not_negative};
 ghost use Rattle.steps.specs.Answers.{Answers};
 ghost use Rattle.steps.specs.Found.{found};
 ghost use Rattle.steps.specs.TermFaults.{term_cause};
@@ -16,7 +16,7 @@ use tree_polynomials::polynomial_of_tree;
 
 // The linear form that the tree of an argument is.
 pub(crate) fn argument_of_tree(alloc: Global, tree: &Ast) -> Result<WideForm, TermFault>
-    ensures answers { Answers term_cause wide_form_of (argument_sought (tree_of tree.now)) result }
+    ensures answers { Answers term_cause wide_form_of (find_argument (tree_of tree.now)) result }
 {
     let polynomial = polynomial_of_tree(alloc, tree)?;
     form_of_tree(1, tree, linear_form(&polynomial))

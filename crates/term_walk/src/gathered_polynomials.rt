@@ -7,7 +7,7 @@ ghost use Rattle.steps.specs.Answers.{Answers};
 ghost use Rattle.steps.specs.Found.{found};
 ghost use Rattle.steps.specs.Steps.{gives};
 ghost use Rattle.steps.specs.TermFaults.{term_cause};
-ghost use Rattle.term_classes.specs.Walk.{unit_term, times_polynomial, times_sought};
+ghost use Rattle.term_classes.specs.Walk.{unit_term, times_polynomial, times_found};
 ghost use Rattle.term_walk.specs.Views.{gathered_of};
 
 use crate::factors::Factors;
@@ -39,7 +39,7 @@ pub(crate) fn nothing_gathered(alloc: Global) -> Result<Gathered, TermFault>
 
 impl Gathered {
     // What was sought of the node at a place, to a power.
-    pub(crate) fn times_sought(
+    pub(crate) fn times_found(
         self,
         alloc: Global,
         at: u32,
@@ -48,7 +48,7 @@ impl Gathered {
     ) -> Result<Gathered, TermFault>
         requires not_zero { power ≢ pos 0 }
         requires small { unsigned_abs power ≤ 12 }
-        ensures answers { Answers term_cause gathered_of (times_sought at power (gathered_of self)
+        ensures answers { Answers term_cause gathered_of (times_found at power (gathered_of self)
             (found ⟦<Znk as Ring>⟧.meaning polynomial)) result }
     {
         let Some(polynomial) = polynomial else {

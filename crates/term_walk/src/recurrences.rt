@@ -4,7 +4,7 @@ ghost use Rattle.std.specs.Prelude.{◌≡◌, ◌≤◌, length, map, IfOk};
 ghost use Rattle.ring_laws.specs.Answer.{Gives};
 ghost use Rattle.ring_laws.specs.Meaning.{items};
 ghost use Rattle.term_text.specs.View.{tree_of};
-ghost use Rattle.term_classes.specs.Recurrence.{in_n_alone, coefficient_sought, coefficients_sought, not_zero_at, recurrence_sought};
+ghost use Rattle.term_classes.specs.Recurrence.{in_n_alone, find_coefficient, find_coefficients, not_zero_at, find_recurrence};
 ghost use Rattle.steps.specs.Answers.{Answers};
 ghost use Rattle.steps.specs.TermFaults.{term_cause};
 
@@ -30,7 +30,7 @@ fn constant_term(alloc: Global, polynomial: &Znk) -> Result<Zn, RingFault>
 
 // The polynomial in n that the tree of a coefficient stands for.
 fn coefficient_of_tree(alloc: Global, tree: &Ast) -> Result<Zn, TermFault>
-    ensures answers { Answers term_cause ⟦<Zn as Ring>⟧.meaning (coefficient_sought (tree_of tree.now)) result }
+    ensures answers { Answers term_cause ⟦<Zn as Ring>⟧.meaning (find_coefficient (tree_of tree.now)) result }
 {
     if let Some(at) = free_of_k(tree) {
         return Err(TermFault::Improper { reason: 8, at });
@@ -49,7 +49,7 @@ fn coefficient_of_tree(alloc: Global, tree: &Ast) -> Result<Zn, TermFault>
 
 // Those of all trees, in their order.
 fn coefficients_of_trees(alloc: Global, trees: &[Ast]) -> Result<Vec<Zn>, TermFault>
-    ensures answers { Answers term_cause (λ list. map ⟦<Zn as Ring>⟧.meaning list.items) (coefficients_sought (map tree_of trees.now)) result }
+    ensures answers { Answers term_cause (λ list. map ⟦<Zn as Ring>⟧.meaning list.items) (find_coefficients (map tree_of trees.now)) result }
     ensures as_many { IfOk result (λ list. length list.items ≡ length trees.now) }
 {
     let mut coefficients = Vec::new(alloc);
@@ -81,7 +81,7 @@ fn not_zero(tree: &Ast, coefficient: &Zn) -> Result<(), TermFault>
 /// There are at most seven, and neither the first nor the last of them is 0.
 pub fn polynomials(alloc: Global, trees: &[Ast]) -> Result<Vec<Zn>, TermFault>
     requires two { 2 ≤ length trees.now }
-    ensures answers { Answers term_cause (λ list. map ⟦<Zn as Ring>⟧.meaning list.items) (recurrence_sought (map tree_of trees.now)) result }
+    ensures answers { Answers term_cause (λ list. map ⟦<Zn as Ring>⟧.meaning list.items) (find_recurrence (map tree_of trees.now)) result }
 {
     let order = trees.len() - 1;
     if order > MAX_ORDER {

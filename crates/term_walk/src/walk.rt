@@ -5,8 +5,8 @@ ghost use Rattle.term_text.specs.View.{tree_of, parts_of};
 ghost use Rattle.steps.specs.Answers.{Answers};
 ghost use Rattle.steps.specs.Steps.{◌then◌};
 ghost use Rattle.steps.specs.TermFaults.{term_cause};
-ghost use Rattle.term_classes.specs.Sought.{polynomial_sought};
-ghost use Rattle.term_classes.specs.Walk.{place_of, times_sought, walk, walk_parts};
+ghost use Rattle.term_classes.specs.Finding.{find_polynomial};
+ghost use Rattle.term_classes.specs.Walk.{place_of, times_found, walk, walk_parts};
 ghost use Rattle.term_walk.specs.Views.{gathered_of};
 ghost use Rattle.term_walk.specs.WalkRows.{is_one_turned};
 
@@ -127,9 +127,9 @@ fn times_polynomial_of(
 ) -> Result<Gathered, TermFault>
     requires not_zero { power ≢ pos 0 }
     requires small { unsigned_abs power ≤ 12 }
-    ensures answers { Answers term_cause gathered_of (polynomial_sought (tree_of tree.now) then (times_sought (place_of (tree_of tree.now)) power
+    ensures answers { Answers term_cause gathered_of (find_polynomial (tree_of tree.now) then (times_found (place_of (tree_of tree.now)) power
         (gathered_of gathered))) result }
 {
     let polynomial = polynomial_of_tree(alloc, tree)?;
-    gathered.times_sought(alloc, tree.at, power, polynomial)
+    gathered.times_found(alloc, tree.at, power, polynomial)
 }

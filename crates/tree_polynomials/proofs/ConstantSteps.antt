@@ -14,9 +14,9 @@ use Rattle.hypergeometric.specs.Divisors.{lowest_terms, raised_fraction, size_of
 use Rattle.hypergeometric.specs.PrimitiveForm.{is_zero}
 use Rattle.grammar.specs.Tree.{Tree, sum_of, power_of, Parts, no_parts, part}
 use Rattle.term_classes.specs.TreePolynomial.{constant_of}
-use Rattle.term_classes.specs.Sought.{polynomial_sought, node_constant_sought, power_made}
+use Rattle.term_classes.specs.Finding.{find_polynomial, find_node_constant, power_made}
 use Rattle.proper_term.specs.Fields.{number_fraction}
-use Rattle.tree_polynomials.specs.ConstantCases.{limited_constant, exponent_sought, power_sought, negative_sought}
+use Rattle.tree_polynomials.specs.ConstantCases.{limited_constant, find_exponent, find_power, find_negative}
 
 zero_test : (z : ℤ) → z ≢ pos 0 → is_zero z ≡ false
 zero_test (pos zero) h = absurd (h refl)
@@ -46,17 +46,17 @@ limited_then {B} c f = by (limited Exponent (unsigned_abs c) c)
 
 -- the exponent of a power, and then its base
 pub power_case : (at : ℕ) (base e : Tree)
-    → node_constant_sought at (power_of base e) ≡ (exponent_sought e then (λ c. where_some c (power_sought at base)))
-power_case at base e = sym (then_assoc (polynomial_sought e) (λ p. where_some (constant_of p) limited_constant)
-    (λ c. where_some c (power_sought at base))
-    ∙ ap (λ f. polynomial_sought e then f) (λ i p. by (constant_of p) i))
+    → find_node_constant at (power_of base e) ≡ (find_exponent e then (λ c. where_some c (find_power at base)))
+power_case at base e = sym (then_assoc (find_polynomial e) (λ p. where_some (constant_of p) limited_constant)
+    (λ c. where_some c (find_power at base))
+    ∙ ap (λ f. find_polynomial e then f) (λ i p. by (constant_of p) i))
   where
-    by : (c : Option ℤ) → (where_some c limited_constant then (λ d. where_some d (power_sought at base)))
-        ≡ where_some c (λ c. within_limit Exponent (unsigned_abs c) c then (λ c1. power_sought at base c))
+    by : (c : Option ℤ) → (where_some c limited_constant then (λ d. where_some d (find_power at base)))
+        ≡ where_some c (λ c. within_limit Exponent (unsigned_abs c) c then (λ c1. find_power at base c))
     by None = refl
-    by (Some c) = limited_then c (power_sought at base)
+    by (Some c) = limited_then c (find_power at base)
 
-pub sum_case : (at : ℕ) (parts : Parts) → node_constant_sought at (sum_of parts) ≡ negative_sought parts
+pub sum_case : (at : ℕ) (parts : Parts) → find_node_constant at (sum_of parts) ≡ find_negative parts
 sum_case at no_parts = refl
 sum_case at (part false t parts) = refl
 sum_case at (part true t no_parts) = refl

@@ -17,7 +17,7 @@ use Rattle.hypergeometric.specs.Fraction.{Fraction, of_whole, fraction_product}
 use Rattle.hypergeometric.specs.Divisors.{nonzero_size, size_of_top, size_of_bottom}
 use Rattle.hypergeometric.specs.PrimitiveForm.{is_zero}
 use Rattle.hypergeometric.proofs.FractionPowers.{product_assoc, one_product}
-use Rattle.term_classes.specs.Sought.{FractionFactor, divides_by_zero, factor_fraction, product_of_fractions, top_sizes, bottom_sizes}
+use Rattle.term_classes.specs.Finding.{FractionFactor, divides_by_zero, factor_fraction, product_of_fractions, top_sizes, bottom_sizes}
 use Rattle.proper_term.specs.Fields.{whole_fraction}
 use Rattle.tree_polynomials.specs.Factors.{factor_of, factors_of}
 use Rattle.tree_polynomials.specs.declared.factors.Factor.{Factor}

@@ -6,11 +6,11 @@ pub mod FactorProducts
 pub mod ExponentLaws
 pub mod ItemsBehind
 pub mod NoConstants
-pub mod NodesSought
+pub mod FindingNodes
 pub mod PolynomialMeanings
 pub mod PolynomialParts
 pub mod PowersRaised
-pub mod PowersSought
+pub mod FindingPowers
 pub mod ProductSizes
 pub mod SumSizes
 pub mod ConstantSteps

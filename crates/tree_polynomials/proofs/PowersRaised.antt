@@ -12,7 +12,7 @@ use Rattle.poly_laws.proofs.PowerBounds.{bounded_unit}
 use Rattle.poly_laws.proofs.Squaring.{power_first, magnitude_first}
 use Rattle.poly_generic.specs.PowerAnswer.{GivesTimes}
 use Rattle.hypergeometric.proofs.FormPolynomials.{laws, o, first, more_than_one}
-use Rattle.term_classes.specs.Sought.{size_raised}
+use Rattle.term_classes.specs.Finding.{size_raised}
 
 -- the same power twice
 pub power_is : (p : Meaning) (e : ℕ) → power_in in_n_and_k p e ≡ poly_power p e

@@ -9,7 +9,7 @@ use Rattle.poly_laws.specs.TwoVariables.{in_n_and_k}
 use Rattle.poly_laws.proofs.PowerBounds.{bounded_unit, bounded_product, bounded_self, in_bounds, part_fits}
 use Rattle.poly_laws.proofs.Squaring.{magnitude_first}
 use Rattle.hypergeometric.proofs.FormPolynomials.{laws, o, more_than_one}
-use Rattle.term_classes.specs.Sought.{product_of_polynomials, sizes_multiplied}
+use Rattle.term_classes.specs.Finding.{product_of_polynomials, sizes_multiplied}
 use Rattle.tree_polynomials.proofs.ItemsBehind.{item_first}
 
 module _ {T : Type 0} (meaning : T → Meaning) (passes : (x : T) → IsTrue ((level 2).passes (meaning x))) where

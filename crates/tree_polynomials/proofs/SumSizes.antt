@@ -6,7 +6,7 @@ use Rattle.ring_laws.specs.Algebra.{Passing, SumInBounds}
 use Rattle.poly_laws.specs.Values.{level}
 use Rattle.poly_laws.specs.TwoVariables.{in_n_and_k}
 use Rattle.hypergeometric.proofs.FormPolynomials.{laws, o}
-use Rattle.term_classes.specs.Sought.{sum_of_polynomials, sizes_added}
+use Rattle.term_classes.specs.Finding.{sum_of_polynomials, sizes_added}
 use Rattle.tree_polynomials.proofs.ItemsBehind.{item_first}
 
 module _ {T : Type 0} (meaning : T → Meaning) (passes : (x : T) → IsTrue ((level 2).passes (meaning x))) where

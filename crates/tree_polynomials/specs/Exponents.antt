@@ -9,7 +9,7 @@ use Rattle.steps.specs.TermFaults.{TermSteps, term_cause}
 use Rattle.steps.specs.declared.faults.TermFault.{TermFault}
 use Rattle.steps.specs.declared.limits.LimitName.TheVariants.{Exponent}
 use Rattle.term_classes.specs.TreePolynomial.{constant_of}
-use Rattle.term_classes.specs.Sought.{where_natural}
+use Rattle.term_classes.specs.Finding.{where_natural}
 
 -- what follows from a constant exponent from 0 to 12
 abbrev pub with_exponent : (ℕ → TermSteps (Option Meaning)) → ℤ → TermSteps (Option Meaning)

@@ -1,6 +1,6 @@
 -- What the factors of a product stand for.
 use Rattle.std.specs.Prelude.{List, map}
-use Rattle.term_classes.specs.Sought.{FractionFactor}
+use Rattle.term_classes.specs.Finding.{FractionFactor}
 use Rattle.tree_polynomials.specs.Views.{fraction_value}
 use Rattle.tree_polynomials.specs.declared.factors.Factor.{Factor}
 

@@ -3,11 +3,11 @@
 ghost use Rattle.std.specs.Prelude.{◌≢◌, ◌≤◌, pos, unsigned_abs, IfOk, IfSome};
 ghost use Rattle.proper_term.specs.Fields.{number_fraction};
 ghost use Rattle.term_text.specs.View.{tree_of};
-ghost use Rattle.term_classes.specs.Sought.{power_made};
+ghost use Rattle.term_classes.specs.Finding.{power_made};
 ghost use Rattle.steps.specs.Answers.{Answers};
 ghost use Rattle.steps.specs.Found.{found};
 ghost use Rattle.steps.specs.TermFaults.{term_cause};
-ghost use Rattle.tree_polynomials.specs.ConstantCases.{limited_constant, exponent_sought};
+ghost use Rattle.tree_polynomials.specs.ConstantCases.{limited_constant, find_exponent};
 ghost use Rattle.tree_polynomials.specs.Views.{whole_value, fraction_value};
 
 use crate::fractions::{over, times_natural_power};
@@ -30,7 +30,7 @@ fn limited(constant: Whole) -> Result<Option<Whole>, TermFault>
 
 // The constant that an exponent is, within its limit.
 pub(crate) fn exponent_of(alloc: Global, exponent: &Ast) -> Result<Option<Whole>, TermFault>
-    ensures answers { Answers term_cause (found whole_value) (exponent_sought (tree_of exponent.now)) result }
+    ensures answers { Answers term_cause (found whole_value) (find_exponent (tree_of exponent.now)) result }
     ensures small { IfOk result (λ found. IfSome found (λ c. unsigned_abs c.value ≤ 12)) }
 {
     let Some(polynomial) = polynomial_of_tree(alloc, exponent)? else {

@@ -9,7 +9,7 @@ use steps::{LimitName, TermFault};
 use term_text::read_term;
 
 // The constant of a text, and no memory for one that isn't read.
-fn sought(alloc: Global, text: &[u8]) -> Result<Option<Frac<Whole>>, TermFault> {
+fn finding(alloc: Global, text: &[u8]) -> Result<Option<Frac<Whole>>, TermFault> {
     if text.len() > 65536 {
         return Err(TermFault::Memory);
     }
@@ -40,7 +40,7 @@ fn constants_of_texts(rt: HostRuntime) -> Result<(), Fail> {
         (b"170141183460469231731687303715884105727/1", i128::MAX, 1),
     ];
     for (text, top, bottom) in &table {
-        match sought(alloc, text)? {
+        match finding(alloc, text)? {
             Some(constant) => assert!(rt; is(&constant, *top, *bottom)),
             None => assert!(rt; false),
         }
@@ -63,14 +63,14 @@ fn texts_without_a_constant(rt: HostRuntime) -> Result<(), Fail> {
         b"1/2+1/3",
         b"n/2",
     ] {
-        assert!(rt; sought(alloc, text)?.is_none());
+        assert!(rt; finding(alloc, text)?.is_none());
     }
     Ok(())
 }
 
 // Whether seeking the constant of a text ends with this fault.
 fn is_refused(alloc: Global, text: &[u8], wanted: TermFault) -> bool {
-    match sought(alloc, text) {
+    match finding(alloc, text) {
         Ok(_) => false,
         Err(fault) => fault == wanted,
     }

@@ -9,8 +9,8 @@ ghost use Rattle.steps.specs.Answers.{Answers};
 ghost use Rattle.steps.specs.Found.{found};
 ghost use Rattle.steps.specs.Steps.{◌then◌};
 ghost use Rattle.steps.specs.TermFaults.{term_cause};
-ghost use Rattle.term_classes.specs.Sought.{constant_sought, constants_sought, product_made, whole_fraction};
-ghost use Rattle.tree_polynomials.specs.ConstantCases.{negative_sought, power_sought};
+ghost use Rattle.term_classes.specs.Finding.{find_constant, find_constants, product_made, whole_fraction};
+ghost use Rattle.tree_polynomials.specs.ConstantCases.{find_negative, find_power};
 ghost use Rattle.tree_polynomials.specs.Factors.{factors_of};
 ghost use Rattle.tree_polynomials.specs.Views.{fraction_value};
 
@@ -47,9 +47,9 @@ fn negative(constant: &Frac<Whole>) -> Frac<Whole>
 }
 
 /// The constant that the tree stands for, in lowest terms, or none, or the first refusal in seeking it.
-#[cycle(sought)]
+#[cycle(finding)]
 pub fn constant_of_tree(alloc: Global, tree: &Ast) -> Result<Option<Frac<Whole>>, TermFault>
-    ensures answers { Answers term_cause (found fraction_value) (constant_sought (tree_of tree.now)) result }
+    ensures answers { Answers term_cause (found fraction_value) (find_constant (tree_of tree.now)) result }
 {
     if let Some(polynomial) = polynomial_of_tree(alloc, tree)? {
         return Ok(constant_fraction(&polynomial));
@@ -72,9 +72,9 @@ pub fn constant_of_tree(alloc: Global, tree: &Ast) -> Result<Option<Frac<Whole>>
 }
 
 // The constant of the parts of a sum: that of one part behind a leading minus, negated.
-#[cycle(sought)]
+#[cycle(finding)]
 fn constant_of_sum(alloc: Global, parts: &[Part]) -> Result<Option<Frac<Whole>>, TermFault>
-    ensures answers { Answers term_cause (found fraction_value) (negative_sought (parts_of parts.now)) result }
+    ensures answers { Answers term_cause (found fraction_value) (find_negative (parts_of parts.now)) result }
 {
     let [part] = parts else {
         return Ok(None);
@@ -89,13 +89,13 @@ fn constant_of_sum(alloc: Global, parts: &[Part]) -> Result<Option<Frac<Whole>>,
 }
 
 // The constant of the parts of a product.
-#[cycle(sought)]
+#[cycle(finding)]
 fn constant_of_product(
     alloc: Global,
     at: u32,
     parts: &[Part],
 ) -> Result<Option<Frac<Whole>>, TermFault>
-    ensures answers { Answers term_cause (found fraction_value) (constants_sought (parts_of parts.now) then (product_made at)) result }
+    ensures answers { Answers term_cause (found fraction_value) (find_constants (parts_of parts.now) then (product_made at)) result }
 {
     let Some(factors) = constants_of(alloc, parts)? else {
         return Ok(None);
@@ -104,9 +104,9 @@ fn constant_of_product(
 }
 
 // The constants of all parts of a product, in their order.
-#[cycle(sought)]
+#[cycle(finding)]
 fn constants_of(alloc: Global, parts: &[Part]) -> Result<Option<Items<Factor>>, TermFault>
-    ensures answers { Answers term_cause (found factors_of) (constants_sought (parts_of parts.now)) result }
+    ensures answers { Answers term_cause (found factors_of) (find_constants (parts_of parts.now)) result }
 {
     let mut factors = Items::new(alloc);
     for part in parts {
@@ -125,7 +125,7 @@ fn constants_of(alloc: Global, parts: &[Part]) -> Result<Option<Items<Factor>>, 
 }
 
 // The constant of a base to a constant power.
-#[cycle(sought)]
+#[cycle(finding)]
 fn constant_of_power(
     alloc: Global,
     at: u32,
@@ -133,7 +133,7 @@ fn constant_of_power(
     power: Whole,
 ) -> Result<Option<Frac<Whole>>, TermFault>
     requires small { unsigned_abs power.value ≤ 12 }
-    ensures answers { Answers term_cause (found fraction_value) (power_sought at (tree_of base.now) power.value) result }
+    ensures answers { Answers term_cause (found fraction_value) (find_power at (tree_of base.now) power.value) result }
 {
     let Some(base) = constant_of_tree(alloc, base)? else {
         return Ok(None);

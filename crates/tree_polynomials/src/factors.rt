@@ -9,7 +9,7 @@ ghost use Rattle.steps.specs.Steps.{makes};
 ghost use Rattle.steps.specs.TermFaults.{term_cause};
 ghost use Rattle.hypergeometric.specs.Divisors.{size_of_top, size_of_bottom};
 ghost use Rattle.hypergeometric.specs.PrimitiveForm.{is_zero};
-ghost use Rattle.term_classes.specs.Sought.{divides_by_zero, factor_fraction, product_of_fractions, top_sizes, bottom_sizes, product_made};
+ghost use Rattle.term_classes.specs.Finding.{divides_by_zero, factor_fraction, product_of_fractions, top_sizes, bottom_sizes, product_made};
 ghost use Rattle.tree_polynomials.specs.Factors.{factor_of, factors_of};
 ghost use Rattle.tree_polynomials.specs.Views.{fraction_value};
 

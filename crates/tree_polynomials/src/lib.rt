@@ -1,7 +1,7 @@
 //! The polynomial and the constant that a tree of a term stands for, or the first refusal in seeking them.
 //!
 //! Input: a tree. Output: its polynomial in k over those in n, or its constant, where it has one. What is sought in which order is in
-//! `term_classes`, `specs/Sought.antt`; what an answer says of it is `Answers` in `specs/Answers.antt`.
+//! `term_classes`, `specs/Finding.antt`; what an answer says of it is `Answers` in `specs/Answers.antt`.
 //! Read `leaves.rt`, `sums.rt`, `products.rt`, `limits.rt` and `exponents.rt` (polynomials and numbers),
 //! `operations.rt` (what a node makes of its parts), `polynomials.rt`; then `powers.rt`, `fractions.rt` and `factors.rt` (powers and
 //! products of fractions), `constant_powers.rt` and `constants.rt`. `names_of_k.rt` finds the first name k.

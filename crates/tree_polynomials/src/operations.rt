@@ -9,7 +9,7 @@ ghost use Rattle.steps.specs.Found.{made_of, found};
 ghost use Rattle.steps.specs.Operations.{of_polynomial};
 ghost use Rattle.steps.specs.Steps.{gives, makes};
 ghost use Rattle.steps.specs.TermFaults.{term_cause};
-ghost use Rattle.term_classes.specs.Sought.{raised_at, sizes_added, sizes_multiplied, sum_of_polynomials, product_of_polynomials};
+ghost use Rattle.term_classes.specs.Finding.{raised_at, sizes_added, sizes_multiplied, sum_of_polynomials, product_of_polynomials};
 
 use crate::products::{power_of, product_of};
 use crate::sums::sum_of;

@@ -7,7 +7,7 @@ ghost use Rattle.term_text.specs.View.{tree_of, parts_of};
 ghost use Rattle.steps.specs.Answers.{Answers};
 ghost use Rattle.steps.specs.Found.{found};
 ghost use Rattle.steps.specs.TermFaults.{TermSteps, term_cause};
-ghost use Rattle.term_classes.specs.Sought.{polynomial_sought, summands_sought, factors_sought};
+ghost use Rattle.term_classes.specs.Finding.{find_polynomial, find_summands, find_factors};
 ghost use Rattle.tree_polynomials.specs.Exponents.{raised_to, ToExponent};
 ghost use Rattle.tree_polynomials.specs.Views.{whole_value};
 
@@ -46,7 +46,7 @@ pub fn constant_of(polynomial: &Znk) -> Option<Whole>
 /// The polynomial in k over those in n that the tree stands for, or none, or the first refusal in seeking it.
 #[cycle(seek)]
 pub fn polynomial_of_tree(alloc: Global, tree: &Ast) -> Result<Option<Znk>, TermFault>
-    ensures answers { Answers term_cause (found ⟦<Znk as Ring>⟧.meaning) (polynomial_sought (tree_of tree.now)) result }
+    ensures answers { Answers term_cause (found ⟦<Znk as Ring>⟧.meaning) (find_polynomial (tree_of tree.now)) result }
 {
     match &tree.node {
         Node::Literal(number) => answer_at(tree.at, Znk::whole(alloc, *number)),
@@ -75,7 +75,7 @@ pub fn polynomial_of_tree(alloc: Global, tree: &Ast) -> Result<Option<Znk>, Term
 // The polynomials of the parts of a sum, with their signs, or that one of them has none.
 #[cycle(seek)]
 fn summands_of(alloc: Global, parts: &[Part]) -> Result<Option<Vec<Znk>>, TermFault>
-    ensures answers { Answers term_cause (found (λ list. map ⟦<Znk as Ring>⟧.meaning list.items)) (summands_sought (parts_of parts.now)) result }
+    ensures answers { Answers term_cause (found (λ list. map ⟦<Znk as Ring>⟧.meaning list.items)) (find_summands (parts_of parts.now)) result }
 {
     let mut summands = Vec::new(alloc);
     for part in parts {
@@ -95,7 +95,7 @@ fn summands_of(alloc: Global, parts: &[Part]) -> Result<Option<Vec<Znk>>, TermFa
 // The polynomials of the parts of a product, or that one of them has none or is divided by.
 #[cycle(seek)]
 fn factors_of(alloc: Global, parts: &[Part]) -> Result<Option<Vec<Znk>>, TermFault>
-    ensures answers { Answers term_cause (found (λ list. map ⟦<Znk as Ring>⟧.meaning list.items)) (factors_sought (parts_of parts.now)) result }
+    ensures answers { Answers term_cause (found (λ list. map ⟦<Znk as Ring>⟧.meaning list.items)) (find_factors (parts_of parts.now)) result }
 {
     let mut factors = Vec::new(alloc);
     for part in parts {
@@ -115,7 +115,7 @@ fn factors_of(alloc: Global, parts: &[Part]) -> Result<Option<Vec<Znk>>, TermFau
 // The constant exponent from 0 to 12 that a tree stands for, or that it stands for none.
 #[cycle(seek)]
 fn exponent_of(alloc: Global, tree: &Ast) -> Result<Option<u32>, TermFault>
-    ensures exponent { (f : ℕ → TermSteps (Option Meaning)) → ToExponent f (raised_to (polynomial_sought (tree_of tree.now)) f) result }
+    ensures exponent { (f : ℕ → TermSteps (Option Meaning)) → ToExponent f (raised_to (find_polynomial (tree_of tree.now)) f) result }
 {
     let Some(polynomial) = polynomial_of_tree(alloc, tree)? else {
         return Ok(None);

@@ -3,7 +3,7 @@
 ghost use Rattle.std.specs.Prelude.{◌≡◌, map, IfOk, IfErr};
 ghost use Rattle.ring_laws.specs.Answer.{OnFault};
 ghost use Rattle.poly_laws.specs.TwoVariables.{in_n_and_k, poly_power};
-ghost use Rattle.term_classes.specs.Sought.{product_of_polynomials, sizes_multiplied, size_raised};
+ghost use Rattle.term_classes.specs.Finding.{product_of_polynomials, sizes_multiplied, size_raised};
 
 use poly_generic::{Znk, times_power};
 use ring_laws::{Ring, RingFault};

@@ -3,7 +3,7 @@
 ghost use Rattle.std.specs.Prelude.{◌≡◌, Bool, map, IfOk, IfErr};
 ghost use Rattle.ring_laws.specs.Answer.{Gives, OnFault};
 ghost use Rattle.poly_laws.specs.TwoVariables.{in_n_and_k};
-ghost use Rattle.term_classes.specs.Sought.{sum_of_polynomials, sizes_added, signed_polynomial};
+ghost use Rattle.term_classes.specs.Finding.{sum_of_polynomials, sizes_added, signed_polynomial};
 
 use poly_generic::Znk;
 use ring_laws::{Ring, RingFault};

@@ -9,7 +9,7 @@ use steps::{LimitName, TermFault};
 use term_text::read_term;
 
 // The polynomial of a text, and no memory for one that isn't read.
-fn sought(alloc: Global, text: &[u8]) -> Result<Option<Znk>, TermFault> {
+fn finding(alloc: Global, text: &[u8]) -> Result<Option<Znk>, TermFault> {
     if text.len() > 65536 {
         return Err(TermFault::Memory);
     }
@@ -47,7 +47,7 @@ fn polynomials_of_texts(rt: HostRuntime) -> Result<(), Fail> {
         (b"n^(3-1)", &[&[0, 0, 1]]),
     ];
     for (text, rows) in &table {
-        match sought(alloc, text)? {
+        match finding(alloc, text)? {
             Some(polynomial) => assert!(rt; polynomial.same(&poly_of(alloc, rows)?)),
             None => assert!(rt; false),
         }
@@ -60,7 +60,7 @@ fn polynomials_of_texts(rt: HostRuntime) -> Result<(), Fail> {
         b"n+1/k",
         b"k/2",
     ] {
-        assert!(rt; sought(alloc, text)?.is_none());
+        assert!(rt; finding(alloc, text)?.is_none());
     }
     Ok(())
 }
@@ -76,7 +76,7 @@ fn constants_of_polynomials(rt: HostRuntime) -> Result<(), Fail> {
         (b"k", None),
     ];
     for (text, wanted) in &table {
-        let Some(polynomial) = sought(alloc, text)? else {
+        let Some(polynomial) = finding(alloc, text)? else {
             assert!(rt; false);
             return Ok(());
         };
@@ -90,7 +90,7 @@ fn constants_of_polynomials(rt: HostRuntime) -> Result<(), Fail> {
 
 // Whether seeking the polynomial of a text ends with this fault.
 fn is_refused(alloc: Global, text: &[u8], wanted: TermFault) -> bool {
-    match sought(alloc, text) {
+    match finding(alloc, text) {
         Ok(_) => false,
         Err(fault) => fault == wanted,
     }

@@ -6,12 +6,12 @@ use Rattle.steps.proofs.Leading.{leads_on, leads_answer}
 use Rattle.hypergeometric.specs.LinearForm.{LinearForm}
 use Rattle.hypergeometric.specs.ProperTerm.{ProperTerm}
 use Rattle.grammar.specs.Tree.{Tree}
-use Rattle.term_classes.specs.Walk.{argument_sought, not_negative, place_of}
+use Rattle.term_classes.specs.Walk.{find_argument, not_negative, place_of}
 use Rattle.term_text.specs.View.{tree_of}
 use Rattle.term_walk.specs.Views.{gathered_of, wide_form_of}
 use Rattle.term_walk.specs.WalkRows.{difference_left}
 use Rattle.term_walk.proofs.HeldNumbers.{held}
-use Rattle.term_walk.proofs.BinomialLeads.{lower_left, forms_left, lower_sought, upper_leads, are_found, found_leads, upper_kept, lower_kept}
+use Rattle.term_walk.proofs.BinomialLeads.{lower_left, forms_left, find_lower, upper_leads, are_found, found_leads, upper_kept, lower_kept}
 use Rattle.term_walk.proofs.factorials.times_binomial_of.Goals as goal
 
 -- no upper argument
@@ -23,7 +23,7 @@ returns-in_err-upper_form c =
     let f : ProperTerm = gathered_of c.args.gathered in
     let w : ℤ = c.args.power in
     rw (p.1, p.2) (record {
-      answers = first_cause (argument_sought upper) (λ l. lower_sought c.args.at upper lower l w f) (term_cause c.in_err-upper_form.field-0.0)
+      answers = first_cause (find_argument upper) (λ l. find_lower c.args.at upper lower l w f) (term_cause c.in_err-upper_form.field-0.0)
           c.in_err-upper_form.ensures.answers;
     })
 
@@ -36,9 +36,9 @@ returns-in_err-lower_form c =
     let f : ProperTerm = gathered_of c.args.gathered in
     let w : ℤ = c.args.power in
     let l : LinearForm = wide_form_of c.in_ok-upper_form.upper_form in
-    let sought = upper_leads c.args.at upper lower w f l c.in_ok-upper_form.ensures.answers in
+    let finding = upper_leads c.args.at upper lower w f l c.in_ok-upper_form.ensures.answers in
     rw (p.1, p.2) (record {
-      answers = sought.cause (term_cause c.in_err-lower_form.field-0.0) (first_cause (argument_sought lower)
+      answers = finding.cause (term_cause c.in_err-lower_form.field-0.0) (first_cause (find_argument lower)
           (λ m. forms_left c.args.at (place_of upper) (place_of lower) l m w f)
           (term_cause c.in_err-lower_form.field-0.0) c.in_err-lower_form.ensures.answers);
     })

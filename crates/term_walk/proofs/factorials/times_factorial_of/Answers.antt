@@ -11,7 +11,7 @@ use Rattle.hypergeometric.specs.ProperTerm.{ProperTerm}
 use Rattle.lin_form.specs.Forms.{form_of}
 use Rattle.grammar.specs.Tree.{Tree}
 use Rattle.term_classes.specs.Forms.{limited_form}
-use Rattle.term_classes.specs.Walk.{argument_sought, not_negative, place_of, with_factorial}
+use Rattle.term_classes.specs.Walk.{find_argument, not_negative, place_of, with_factorial}
 use Rattle.term_text.specs.View.{tree_of}
 use Rattle.term_text.proofs.Views.{tree_of-at}
 use Rattle.term_walk.specs.Views.{gathered_of, wide_form_of}
@@ -26,7 +26,7 @@ returns-in_err-form c =
     let f : ProperTerm = gathered_of c.args.gathered in
     let w : ℤ = c.args.power in
     rw (p.1, p.2) (record {
-      answers = λ _. first_cause (argument_sought t) (λ l. not_negative (place_of t) l then (λ l1. limited_form l then (λ l2. with_factorial l w f)))
+      answers = λ _. first_cause (find_argument t) (λ l. not_negative (place_of t) l then (λ l1. limited_form l then (λ l2. with_factorial l w f)))
           (term_cause c.in_err-form.field-0.0) c.in_err-form.ensures.answers;
     })
 

@@ -1,7 +1,7 @@
 use Rattle.std.proofs.Common.{map, arith}
 use Rattle.std.proofs.lemmas.List.{length-map}
 use Rattle.term_text.specs.View.{tree_of}
-use Rattle.term_classes.specs.Recurrence.{recurrence_sought}
+use Rattle.term_classes.specs.Recurrence.{find_recurrence}
 use Rattle.steps.proofs.AnswerLaws.{fault_answer}
 use Rattle.steps.specs.TermFaults.{term_cause}
 use Rattle.term_walk.proofs.FirstAndLast.{coefficients_fault, last_refused, both_kept}
@@ -12,7 +12,7 @@ pub returns-in_err-coefficients : goal.returns-in_err-coefficients
 returns-in_err-coefficients c =
     let ts = map tree_of c.args.trees.now in
     let fault = c.in_err-coefficients.field-0.0 in record {
-      answers = fault_answer term_cause _ (recurrence_sought ts) c.from_residual.result fault c.from_residual.ensures.1
+      answers = fault_answer term_cause _ (find_recurrence ts) c.from_residual.result fault c.from_residual.ensures.1
           (coefficients_fault ts (omega (arith, length-map c.args.trees.now tree_of, c.if-order-gt-MAX_ORDER.false)) fault
           c.in_err-coefficients.ensures.answers);
     }
@@ -23,7 +23,7 @@ returns-in_err-not_zero-2 c =
     let trees = c.args.trees.now in
     let coefficients = c.in_ok-coefficients.coefficients.items in
     let fault = c.in_err-not_zero-2.field-0.0 in record {
-      answers = fault_answer term_cause _ (recurrence_sought (map tree_of trees)) c.from_residual-in_err-not_zero-2.result fault
+      answers = fault_answer term_cause _ (find_recurrence (map tree_of trees)) c.from_residual-in_err-not_zero-2.result fault
           c.from_residual-in_err-not_zero-2.ensures.1
           (last_refused trees coefficients c.requires.two c.if-order-gt-MAX_ORDER.false c.in_ok-coefficients.ensures.as_many
           c.in_ok-coefficients.ensures.answers c.index-trees-0.result c.index.result.now c.index-trees-0.is c.index.ensures

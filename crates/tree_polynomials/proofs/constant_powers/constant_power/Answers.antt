@@ -8,7 +8,7 @@ use Rattle.steps.specs.Found.{found}
 use Rattle.steps.specs.TermFaults.{TermSteps, term_cause}
 use Rattle.hypergeometric.specs.Fraction.{Fraction}
 use Rattle.hypergeometric.proofs.FractionPowers.{fraction_same}
-use Rattle.term_classes.specs.Sought.{power_made}
+use Rattle.term_classes.specs.Finding.{power_made}
 use Rattle.tree_polynomials.specs.Views.{fraction_value}
 use Rattle.tree_polynomials.proofs.ConstantSteps.{negative_power}
 use Rattle.tree_polynomials.proofs.constant_powers.constant_power.Goals as goal

@@ -1,5 +1,5 @@
 use Rattle.std.proofs.Common.{◌≡◌, drop}
-use Rattle.term_classes.specs.Sought.{divides_by_zero}
+use Rattle.term_classes.specs.Finding.{divides_by_zero}
 use Rattle.tree_polynomials.specs.Factors.{factors_of}
 use Rattle.tree_polynomials.proofs.factors.has_zero_below.Given as goal
 

@@ -7,7 +7,7 @@ use Rattle.steps.proofs.LargerCounterparts.{larger_cause}
 use Rattle.steps.proofs.StepLaws.{same_Ok}
 use Rattle.hypergeometric.specs.Fraction.{Fraction, fraction_product}
 use Rattle.hypergeometric.specs.Divisors.{size_of_top, size_of_bottom}
-use Rattle.term_classes.specs.Sought.{factor_fraction, product_of_fractions, top_sizes, bottom_sizes}
+use Rattle.term_classes.specs.Finding.{factor_fraction, product_of_fractions, top_sizes, bottom_sizes}
 use Rattle.tree_polynomials.specs.Factors.{factor_of, factors_of}
 use Rattle.tree_polynomials.specs.Views.{fraction_value}
 use Rattle.tree_polynomials.proofs.FactorProducts.{IsLeft, left_at, one_less, next_in_bounds}

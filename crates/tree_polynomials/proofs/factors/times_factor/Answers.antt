@@ -7,7 +7,7 @@ use Rattle.steps.specs.declared.faults.TermFault.{TermFault}
 use Rattle.poly_fraction.specs.FractionOf.{fraction_of}
 use Rattle.hypergeometric.specs.Fraction.{Fraction, fraction_product}
 use Rattle.hypergeometric.specs.Divisors.{size_of_top, size_of_bottom}
-use Rattle.term_classes.specs.Sought.{factor_fraction}
+use Rattle.term_classes.specs.Finding.{factor_fraction}
 use Rattle.tree_polynomials.specs.Factors.{factor_of}
 use Rattle.tree_polynomials.specs.Views.{fraction_value}
 use Rattle.tree_polynomials.proofs.FactorProducts.{product_fault}

@@ -3,7 +3,7 @@ use Rattle.lin_form.proofs.Items.{each_of}
 use Rattle.steps.proofs.AnswerLaws.{made_answer}
 use Rattle.steps.specs.Operations.{of_polynomial}
 use Rattle.steps.specs.TermFaults.{term_cause}
-use Rattle.term_classes.specs.Sought.{sizes_added, sum_of_polynomials}
+use Rattle.term_classes.specs.Finding.{sizes_added, sum_of_polynomials}
 use Rattle.tree_polynomials.proofs.PolynomialMeanings.{meaning_of}
 use Rattle.tree_polynomials.proofs.operations.added.Goals as goal
 

@@ -3,7 +3,7 @@ use Rattle.lin_form.proofs.Items.{each_of}
 use Rattle.steps.proofs.AnswerLaws.{made_answer}
 use Rattle.steps.specs.Operations.{of_polynomial}
 use Rattle.steps.specs.TermFaults.{term_cause}
-use Rattle.term_classes.specs.Sought.{sizes_multiplied, product_of_polynomials}
+use Rattle.term_classes.specs.Finding.{sizes_multiplied, product_of_polynomials}
 use Rattle.tree_polynomials.proofs.PolynomialMeanings.{meaning_of}
 use Rattle.tree_polynomials.proofs.operations.multiplied.Goals as goal
 

@@ -3,7 +3,7 @@ use Rattle.poly_laws.specs.TwoVariables.{poly_power}
 use Rattle.steps.specs.Operations.{of_polynomial}
 use Rattle.steps.specs.TermFaults.{term_cause}
 use Rattle.steps.proofs.AnswerLaws.{made_answer}
-use Rattle.term_classes.specs.Sought.{size_raised}
+use Rattle.term_classes.specs.Finding.{size_raised}
 use Rattle.tree_polynomials.proofs.PolynomialMeanings.{meaning_of}
 use Rattle.tree_polynomials.proofs.operations.raised.Goals as goal
 

@@ -2,33 +2,33 @@ use Rattle.std.proofs.Common.{sym, subst, drop, ◌+◌}
 use Rattle.std.specs.Result.{is_ok}
 use Rattle.lin_form.proofs.Items.{each_of}
 use Rattle.term_text.specs.View.{tree_of, parts_of}
-use Rattle.term_classes.specs.Sought.{polynomial_sought, summands_sought, factors_sought}
+use Rattle.term_classes.specs.Finding.{find_polynomial, find_summands, find_factors}
 use Rattle.steps.proofs.AnswerLaws.{fault_answer}
-use Rattle.steps.proofs.PartsSought.{Continues}
+use Rattle.steps.proofs.FindingParts.{Continues}
 use Rattle.steps.specs.Found.{found}
 use Rattle.steps.specs.TermFaults.{term_cause}
-use Rattle.tree_polynomials.proofs.NodesSought.{same_answer, literal_sought, n_sought, k_sought, sum_answer, product_answer, some_found, none_found}
+use Rattle.tree_polynomials.proofs.FindingNodes.{same_answer, find_literal, find_n, find_k, sum_answer, product_answer, some_found, none_found}
 use Rattle.tree_polynomials.proofs.PolynomialMeanings.{meaning_of}
 use Rattle.tree_polynomials.proofs.PolynomialParts.{summand_done, summand_none, summand_fault, factor_done, factor_none, factor_fault, summands_done, factors_done, pushed}
-use Rattle.tree_polynomials.proofs.PowersSought.{constant_exponent, exponent_fault, exponent_none, base_fault, base_raised}
+use Rattle.tree_polynomials.proofs.FindingPowers.{constant_exponent, exponent_fault, exponent_none, base_fault, base_raised}
 use Rattle.tree_polynomials.proofs.polynomials.+seek.Goals as goal
 
 -- leaves
 pub polynomial_of_tree-returns-in-Literal : goal.polynomial_of_tree-returns-in-Literal
 polynomial_of_tree-returns-in-Literal t c = record {
   answers = same_answer c.answer_at.result (found meaning_of) _ _
-      (literal_sought c.args.tree.now c.in-Literal.number c.in-Literal.is) (c.answer_at.ensures.leaf _ c.whole.ensures.gives);
+      (find_literal c.args.tree.now c.in-Literal.number c.in-Literal.is) (c.answer_at.ensures.leaf _ c.whole.ensures.gives);
 }
 
 pub polynomial_of_tree-returns-in-N : goal.polynomial_of_tree-returns-in-N
 polynomial_of_tree-returns-in-N t c = record {
-  answers = same_answer c.answer_at-in-N.result (found meaning_of) _ _ (n_sought c.args.tree.now c.in-N.is)
+  answers = same_answer c.answer_at-in-N.result (found meaning_of) _ _ (find_n c.args.tree.now c.in-N.is)
       (c.answer_at-in-N.ensures.leaf _ c.variable_n.ensures.gives);
 }
 
 pub polynomial_of_tree-returns-in-K : goal.polynomial_of_tree-returns-in-K
 polynomial_of_tree-returns-in-K t c = record {
-  answers = same_answer c.answer_at-in-K.result (found meaning_of) _ _ (k_sought c.args.tree.now c.in-K.is)
+  answers = same_answer c.answer_at-in-K.result (found meaning_of) _ _ (find_k c.args.tree.now c.in-K.is)
       (c.answer_at-in-K.ensures.leaf _ c.variable_k.ensures.gives);
 }
 
@@ -50,7 +50,7 @@ polynomial_of_tree-returns-in_ok-factors-in-Product t c = record {
 -- a power
 pub polynomial_of_tree-returns-in_err-power-in-Pow : goal.polynomial_of_tree-returns-in_err-power-in-Pow
 polynomial_of_tree-returns-in_err-power-in-Pow t c = record {
-  answers = fault_answer term_cause (found meaning_of) (polynomial_sought (tree_of c.args.tree.now)) c.from_residual-in_err-power-in-Pow.result
+  answers = fault_answer term_cause (found meaning_of) (find_polynomial (tree_of c.args.tree.now)) c.from_residual-in_err-power-in-Pow.result
       c.in_err-power-in-Pow.field-0.0 c.from_residual-in_err-power-in-Pow.ensures.1
       (exponent_fault c.args.tree.now c.in-Pow.base c.in-Pow.exponent c.in-Pow.is c.get.result.now c.get.ensures c.in_err-power-in-Pow.field-0.0
       c.in_err-power-in-Pow.ensures.exponent);
@@ -64,7 +64,7 @@ polynomial_of_tree-returns-in_default t c = record {
 
 pub polynomial_of_tree-returns-in_err-base-in-Pow : goal.polynomial_of_tree-returns-in_err-base-in-Pow
 polynomial_of_tree-returns-in_err-base-in-Pow t c = record {
-  answers = fault_answer term_cause (found meaning_of) (polynomial_sought (tree_of c.args.tree.now)) c.from_residual-in_err-base-in-Pow.result
+  answers = fault_answer term_cause (found meaning_of) (find_polynomial (tree_of c.args.tree.now)) c.from_residual-in_err-base-in-Pow.result
       c.in_err-base-in-Pow.field-0.0 c.from_residual-in_err-base-in-Pow.ensures.1
       (base_fault c.args.tree.now c.in-Pow.base c.in-Pow.exponent c.in-Pow.is c.get.result.now c.get.ensures c.in_ok-power-in-Pow.field-0
       c.in-Some.power
@@ -90,7 +90,7 @@ exponent_of-returns t c = record {
 pub summands_of-returns-in_err-polynomial : goal.summands_of-returns-in_err-polynomial
 summands_of-returns-in_err-polynomial t c = record {
   answers = fault_answer term_cause (found (λ list. each_of list.items meaning_of))
-      (summands_sought (parts_of c.args.parts.now)) c.from_residual.result
+      (find_summands (parts_of c.args.parts.now)) c.from_residual.result
       c.in_err-polynomial.field-0.0 c.from_residual.ensures.1
       (summand_fault c.args.parts.now c.loop-part.part-index c.part-item.result _ c.loop-part-test.true c.part-item.is c.loop-part.invariant
       c.in_err-polynomial.field-0.0 c.in_err-polynomial.ensures.answers);
@@ -99,19 +99,19 @@ summands_of-returns-in_err-polynomial t c = record {
 pub summands_of-returns-in_default : goal.summands_of-returns-in_default
 summands_of-returns-in_default t c = record {
   answers = summand_none c.args.parts.now c.loop-part.part-index c.part-item.result _ c.loop-part-test.true c.part-item.is c.loop-part.invariant
-      (none_found c.in_ok-polynomial.field-0 meaning_of (polynomial_sought (tree_of c.part-item.result.ast))
+      (none_found c.in_ok-polynomial.field-0 meaning_of (find_polynomial (tree_of c.part-item.result.ast))
       c.in_ok-polynomial.ensures.answers c.in_default.is);
 }
 
 pub summands_of-loop-part-preserved : goal.summands_of-loop-part-preserved
 summands_of-loop-part-preserved t c =
     subst
-    (Continues (summands_sought (parts_of c.args.parts.now)) (summands_sought (parts_of (drop (c.loop-part.part-index + 1) c.args.parts.now))))
+    (Continues (find_summands (parts_of c.args.parts.now)) (find_summands (parts_of (drop (c.loop-part.part-index + 1) c.args.parts.now))))
     (sym (pushed c.push.new.self.items c.loop-part.summands.items c.in-Ok.summand (is_ok c.push.result) c.is_err.result
     meaning_of c.push.ensures.items c.is_err.ensures.negation c.if-is_err.false))
     (summand_done c.args.parts.now c.loop-part.part-index c.part-item.result _ c.loop-part-test.true c.part-item.is c.loop-part.invariant _ _
     (some_found c.in_ok-polynomial.field-0 c.in-Some.polynomial meaning_of
-    (polynomial_sought (tree_of c.part-item.result.ast)) c.in_ok-polynomial.ensures.answers c.in-Some.is) c.in-Ok.ensures.gives)
+    (find_polynomial (tree_of c.part-item.result.ast)) c.in_ok-polynomial.ensures.answers c.in-Some.is) c.in-Ok.ensures.gives)
 
 pub summands_of-returns : goal.summands_of-returns
 summands_of-returns t c = record { answers = summands_done c.args.parts.now c.loop-part.part-index _ c.loop-part-test.false c.loop-part.invariant }
@@ -120,7 +120,7 @@ summands_of-returns t c = record { answers = summands_done c.args.parts.now c.lo
 pub factors_of-returns-in_err-factor : goal.factors_of-returns-in_err-factor
 factors_of-returns-in_err-factor t c = record {
   answers = fault_answer term_cause (found (λ list. each_of list.items meaning_of))
-      (factors_sought (parts_of c.args.parts.now)) c.from_residual.result
+      (find_factors (parts_of c.args.parts.now)) c.from_residual.result
       c.in_err-factor.field-0.0 c.from_residual.ensures.1
       (factor_fault c.args.parts.now c.loop-part.part-index c.part-item.result _ c.loop-part-test.true c.part-item.is c.loop-part.invariant
       c.in_err-factor.field-0.0 c.if-part.false c.in_err-factor.ensures.answers);
@@ -130,17 +130,17 @@ pub factors_of-returns-in_default : goal.factors_of-returns-in_default
 factors_of-returns-in_default t c = record {
   answers = factor_none c.args.parts.now c.loop-part.part-index c.part-item.result _ c.loop-part-test.true c.part-item.is c.loop-part.invariant
       c.if-part.false (none_found c.in_ok-factor.field-0 meaning_of
-      (polynomial_sought (tree_of c.part-item.result.ast)) c.in_ok-factor.ensures.answers c.in_default.is);
+      (find_polynomial (tree_of c.part-item.result.ast)) c.in_ok-factor.ensures.answers c.in_default.is);
 }
 
 pub factors_of-loop-part-preserved : goal.factors_of-loop-part-preserved
 factors_of-loop-part-preserved t c =
-    subst (Continues (factors_sought (parts_of c.args.parts.now)) (factors_sought (parts_of (drop (c.loop-part.part-index + 1) c.args.parts.now))))
+    subst (Continues (find_factors (parts_of c.args.parts.now)) (find_factors (parts_of (drop (c.loop-part.part-index + 1) c.args.parts.now))))
     (sym (pushed c.push.new.self.items c.loop-part.factors.items c.in-Some.factor (is_ok c.push.result) c.is_err.result
     meaning_of c.push.ensures.items c.is_err.ensures.negation c.if-is_err.false))
     (factor_done c.args.parts.now c.loop-part.part-index c.part-item.result _ c.loop-part-test.true c.part-item.is c.loop-part.invariant _
     c.if-part.false (some_found c.in_ok-factor.field-0 c.in-Some.factor meaning_of
-    (polynomial_sought (tree_of c.part-item.result.ast)) c.in_ok-factor.ensures.answers c.in-Some.is))
+    (find_polynomial (tree_of c.part-item.result.ast)) c.in_ok-factor.ensures.answers c.in-Some.is))
 
 pub factors_of-returns : goal.factors_of-returns
 factors_of-returns t c = record { answers = factors_done c.args.parts.now c.loop-part.part-index _ c.loop-part-test.false c.loop-part.invariant }

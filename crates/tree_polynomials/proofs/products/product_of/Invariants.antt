@@ -1,6 +1,6 @@
 use Rattle.std.proofs.Common.{◌≡◌, ◌≤◌, drop, length}
 use Rattle.lin_form.proofs.Items.{each_of}
-use Rattle.term_classes.specs.Sought.{product_of_polynomials}
+use Rattle.term_classes.specs.Finding.{product_of_polynomials}
 use Rattle.tree_polynomials.proofs.PolynomialMeanings.{meaning_of}
 use Rattle.tree_polynomials.proofs.products.product_of.Given as goal
 

@@ -1,6 +1,6 @@
 use Rattle.std.proofs.Common.{◌≡◌, ◌≤◌, drop, length}
 use Rattle.lin_form.proofs.Items.{each_of}
-use Rattle.term_classes.specs.Sought.{sum_of_polynomials}
+use Rattle.term_classes.specs.Finding.{sum_of_polynomials}
 use Rattle.tree_polynomials.proofs.PolynomialMeanings.{meaning_of}
 use Rattle.tree_polynomials.proofs.sums.sum_of.Given as goal
 

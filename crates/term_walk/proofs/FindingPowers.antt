@@ -8,25 +8,25 @@ use Rattle.steps.specs.Found.{found}
 use Rattle.steps.specs.TermFaults.{TermSteps, term_cause}
 use Rattle.steps.specs.declared.faults.TermFault.{TermFault}
 use Rattle.hypergeometric.specs.ProperTerm.{ProperTerm}
-use Rattle.term_classes.specs.Walk.{times_number, times_polynomial, times_sought}
+use Rattle.term_classes.specs.Walk.{times_number, times_polynomial, times_found}
 
 module _ {T R : Type 0} (meaning : T → Meaning) (view : R → ProperTerm) (result : Result R TermFault) (at : ℕ) (w : ℤ) (f : ProperTerm)
     (o : Option T) (t : T) (some : o ≡ Some t) where
   by_constant : (z : Option ℤ) → z ≡ constant_in_k (items (meaning t)) → Answers term_cause view (elim z as (λ _. TermSteps ProperTerm) [
     | Some z ↦ times_number at z w f
     | None ↦ times_polynomial at (meaning t) w f
-  ]) result → Answers term_cause view (times_sought at w f (found meaning o)) result
+  ]) result → Answers term_cause view (times_found at w f (found meaning o)) result
   by_constant z e h =
-      subst (λ o. Answers term_cause view (times_sought at w f (found meaning o)) result) (sym some)
+      subst (λ o. Answers term_cause view (times_found at w f (found meaning o)) result) (sym some)
       (subst (λ z. Answers term_cause view (elim z as (λ _. TermSteps ProperTerm) [
         | Some z ↦ times_number at z w f
         | None ↦ times_polynomial at (meaning t) w f
       ]) result) e h)
 
-  pub sought_number : (z : ℤ) → Some z ≡ constant_in_k (items (meaning t)) → Answers term_cause view (times_number at z w f) result
-      → Answers term_cause view (times_sought at w f (found meaning o)) result
-  sought_number z e h = by_constant (Some z) e h
+  pub finding_number : (z : ℤ) → Some z ≡ constant_in_k (items (meaning t)) → Answers term_cause view (times_number at z w f) result
+      → Answers term_cause view (times_found at w f (found meaning o)) result
+  finding_number z e h = by_constant (Some z) e h
 
-  pub sought_polynomial : None ≡ constant_in_k (items (meaning t)) → Answers term_cause view (times_polynomial at (meaning t) w f) result
-      → Answers term_cause view (times_sought at w f (found meaning o)) result
-  sought_polynomial e h = by_constant None e h
+  pub finding_polynomial : None ≡ constant_in_k (items (meaning t)) → Answers term_cause view (times_polynomial at (meaning t) w f) result
+      → Answers term_cause view (times_found at w f (found meaning o)) result
+  finding_polynomial e h = by_constant None e h

@@ -48,35 +48,35 @@ where_natural (pos e) f = f e
 where_natural (negsuc e) f = gives None
 
 abbrev mutual
-  pub polynomial_sought : Tree → TermSteps (Option Meaning)
-  polynomial_sought (tree at node) = node_polynomial_sought at node
+  pub find_polynomial : Tree → TermSteps (Option Meaning)
+  find_polynomial (tree at node) = find_node_polynomial at node
 
-  pub node_polynomial_sought : ℕ → Node → TermSteps (Option Meaning)
-  node_polynomial_sought at (literal c) = gives (Some (in_n_and_k.whole c))
-  node_polynomial_sought at variable_n = gives (Some poly_n)
-  node_polynomial_sought at variable_k = gives (Some poly_k)
-  node_polynomial_sought at (sum_of parts) =
-      summands_sought parts then (made_of at (λ ps. of_polynomial (sizes_added ps)) sum_of_polynomials)
-  node_polynomial_sought at (product_of parts) =
-      factors_sought parts then (made_of at (λ ps. of_polynomial (sizes_multiplied ps)) product_of_polynomials)
-  node_polynomial_sought at (power_of base e) = polynomial_sought e then (λ p.
+  pub find_node_polynomial : ℕ → Node → TermSteps (Option Meaning)
+  find_node_polynomial at (literal c) = gives (Some (in_n_and_k.whole c))
+  find_node_polynomial at variable_n = gives (Some poly_n)
+  find_node_polynomial at variable_k = gives (Some poly_k)
+  find_node_polynomial at (sum_of parts) =
+      find_summands parts then (made_of at (λ ps. of_polynomial (sizes_added ps)) sum_of_polynomials)
+  find_node_polynomial at (product_of parts) =
+      find_factors parts then (made_of at (λ ps. of_polynomial (sizes_multiplied ps)) product_of_polynomials)
+  find_node_polynomial at (power_of base e) = find_polynomial e then (λ p.
       where_some (constant_of p) (λ c. within_limit Exponent (unsigned_abs c) c then (λ c1.
-      where_natural c (λ power. polynomial_sought base then (raised_at at power)))))
-  node_polynomial_sought at (factorial_of t) = gives None
-  node_polynomial_sought at (binomial_of l m) = gives None
+      where_natural c (λ power. find_polynomial base then (raised_at at power)))))
+  find_node_polynomial at (factorial_of t) = gives None
+  find_node_polynomial at (binomial_of l m) = gives None
 
   -- the polynomials of the parts of a sum, with their signs
-  pub summands_sought : Parts → TermSteps (Option (List Meaning))
-  summands_sought no_parts = gives (Some [])
-  summands_sought (part turned t parts) = polynomial_sought t then (λ p.
-      where_some p (λ p1. summands_sought parts then (λ ps. gives (in_front (signed_polynomial turned p1) ps))))
+  pub find_summands : Parts → TermSteps (Option (List Meaning))
+  find_summands no_parts = gives (Some [])
+  find_summands (part turned t parts) = find_polynomial t then (λ p.
+      where_some p (λ p1. find_summands parts then (λ ps. gives (in_front (signed_polynomial turned p1) ps))))
 
   -- those of the parts of a product; a part that is divided by decides that there is none
-  pub factors_sought : Parts → TermSteps (Option (List Meaning))
-  factors_sought no_parts = gives (Some [])
-  factors_sought (part true t parts) = gives None
-  factors_sought (part false t parts) = polynomial_sought t then (λ p.
-      where_some p (λ p1. factors_sought parts then (λ ps. gives (in_front p1 ps))))
+  pub find_factors : Parts → TermSteps (Option (List Meaning))
+  find_factors no_parts = gives (Some [])
+  find_factors (part true t parts) = gives None
+  find_factors (part false t parts) = find_polynomial t then (λ p.
+      where_some p (λ p1. find_factors parts then (λ ps. gives (in_front p1 ps))))
 
 -- a fraction, and whether it is divided by
 abbrev pub FractionFactor : Type 0
@@ -127,21 +127,21 @@ negative_of (Some f) = Some (fraction_negative f)
 
 -- A tree is a constant where its polynomial is one; other cases are looked at only where it has no polynomial.
 abbrev mutual
-  pub constant_sought : Tree → TermSteps (Option Fraction)
-  constant_sought (tree at node) = node_polynomial_sought at node then (λ p. elim p as (λ _. TermSteps (Option Fraction)) [
+  pub find_constant : Tree → TermSteps (Option Fraction)
+  find_constant (tree at node) = find_node_polynomial at node then (λ p. elim p as (λ _. TermSteps (Option Fraction)) [
     | Some q ↦ gives (whole_fraction (constant_in_k (items q)))
-    | None ↦ node_constant_sought at node
+    | None ↦ find_node_constant at node
   ])
 
-  pub node_constant_sought : ℕ → Node → TermSteps (Option Fraction)
-  node_constant_sought at (sum_of (part true t no_parts)) = constant_sought t then (λ f. gives (negative_of f))
-  node_constant_sought at (product_of parts) = constants_sought parts then (product_made at)
-  node_constant_sought at (power_of base e) = polynomial_sought e then (λ p.
+  pub find_node_constant : ℕ → Node → TermSteps (Option Fraction)
+  find_node_constant at (sum_of (part true t no_parts)) = find_constant t then (λ f. gives (negative_of f))
+  find_node_constant at (product_of parts) = find_constants parts then (product_made at)
+  find_node_constant at (power_of base e) = find_polynomial e then (λ p.
       where_some (constant_of p) (λ c. within_limit Exponent (unsigned_abs c) c then (λ c1.
-      constant_sought base then (λ f. where_some f (power_made at c)))))
-  node_constant_sought at node = gives None
+      find_constant base then (λ f. where_some f (power_made at c)))))
+  find_node_constant at node = gives None
 
-  pub constants_sought : Parts → TermSteps (Option (List FractionFactor))
-  constants_sought no_parts = gives (Some [])
-  constants_sought (part turned t parts) = constant_sought t then (λ f.
-      where_some f (λ f1. constants_sought parts then (λ fs. gives (in_front (turned, f1) fs))))
+  pub find_constants : Parts → TermSteps (Option (List FractionFactor))
+  find_constants no_parts = gives (Some [])
+  find_constants (part turned t parts) = find_constant t then (λ f.
+      where_some f (λ f1. find_constants parts then (λ fs. gives (in_front (turned, f1) fs))))

@@ -12,7 +12,7 @@ use Rattle.steps.specs.declared.limits.LimitName.TheVariants.{Exponent}
 use Rattle.steps.proofs.StepLaws.{then_gave, same_Ok, limit_gave}
 use Rattle.grammar.specs.Tree.{Tree, tree, Node, literal, variable_n, variable_k, sum_of, product_of, power_of, factorial_of, binomial_of, Parts, no_parts, part}
 use Rattle.term_classes.specs.TreePolynomial.{constant_of, combined, signed_poly, raised, tree_polynomial, node_polynomial, sum_polynomial, product_polynomial}
-use Rattle.term_classes.specs.Sought.{size_raised, sum_of_polynomials, product_of_polynomials, sizes_added, sizes_multiplied, signed_polynomial, raised_at, where_natural, polynomial_sought, node_polynomial_sought, summands_sought, factors_sought}
+use Rattle.term_classes.specs.Finding.{size_raised, sum_of_polynomials, product_of_polynomials, sizes_added, sizes_multiplied, signed_polynomial, raised_at, where_natural, find_polynomial, find_node_polynomial, find_summands, find_factors}
 
 abbrev where_there : {A B : Type 0} → (A → B) → Option A → Option B
 where_there f None = None
@@ -26,12 +26,12 @@ made_gave at c f (Some x) y e = same_Ok (Some (f x)) y e
 
 -- a summand in front
 one_summand : (turned : Bool) (a : Option Meaning) (parts : Parts) (ps : Option (List Meaning))
-    → (where_some a (λ p. summands_sought parts then (λ ps. gives (in_front (signed_polynomial turned p) ps)))).outcome ≡ Ok ps
-    → ((qs : Option (List Meaning)) → (summands_sought parts).outcome ≡ Ok qs → sum_polynomial parts ≡ where_there sum_of_polynomials qs)
+    → (where_some a (λ p. find_summands parts then (λ ps. gives (in_front (signed_polynomial turned p) ps)))).outcome ≡ Ok ps
+    → ((qs : Option (List Meaning)) → (find_summands parts).outcome ≡ Ok qs → sum_polynomial parts ≡ where_there sum_of_polynomials qs)
     → combined in_n_and_k.sum (signed_poly turned a) (sum_polynomial parts) ≡ where_there sum_of_polynomials ps
 one_summand turned None parts ps e h = ap (where_there sum_of_polynomials) (same_Ok None ps e)
 one_summand turned (Some p) parts ps e h =
-    let g = then_gave (summands_sought parts) (λ ps. gives (in_front (signed_polynomial turned p) ps)) ps e in
+    let g = then_gave (find_summands parts) (λ ps. gives (in_front (signed_polynomial turned p) ps)) ps e in
     ap (combined in_n_and_k.sum (signed_poly turned (Some p))) (h g.value g.first) ∙ joined turned g.value
     ∙ ap (where_there sum_of_polynomials) (same_Ok (in_front (signed_polynomial turned p) g.value) ps g.second)
   where
@@ -43,12 +43,12 @@ one_summand turned (Some p) parts ps e h =
     joined true (Some qs) = refl
 
 one_factor : (a : Option Meaning) (parts : Parts) (ps : Option (List Meaning))
-    → (where_some a (λ p. factors_sought parts then (λ ps. gives (in_front p ps)))).outcome ≡ Ok ps
-    → ((qs : Option (List Meaning)) → (factors_sought parts).outcome ≡ Ok qs → product_polynomial parts ≡ where_there product_of_polynomials qs)
+    → (where_some a (λ p. find_factors parts then (λ ps. gives (in_front p ps)))).outcome ≡ Ok ps
+    → ((qs : Option (List Meaning)) → (find_factors parts).outcome ≡ Ok qs → product_polynomial parts ≡ where_there product_of_polynomials qs)
     → combined in_n_and_k.product a (product_polynomial parts) ≡ where_there product_of_polynomials ps
 one_factor None parts ps e h = ap (where_there product_of_polynomials) (same_Ok None ps e)
 one_factor (Some p) parts ps e h =
-    let g = then_gave (factors_sought parts) (λ ps. gives (in_front p ps)) ps e in
+    let g = then_gave (find_factors parts) (λ ps. gives (in_front p ps)) ps e in
     ap (combined in_n_and_k.product (Some p)) (h g.value g.first) ∙ joined g.value
     ∙ ap (where_there product_of_polynomials) (same_Ok (in_front p g.value) ps g.second)
   where
@@ -74,56 +74,56 @@ small_exponent (Some p) c h =
 -- a base to the exponent that was found
 one_power : (at : ℕ) (base : Tree) (c : Option ℤ) (p : Option Meaning)
     → (where_some c (λ c. within_limit Exponent (unsigned_abs c) c then (λ c1.
-    where_natural c (λ power. polynomial_sought base then (raised_at at power))))).outcome ≡ Ok p
-    → ((q : Option Meaning) → (polynomial_sought base).outcome ≡ Ok q → tree_polynomial base ≡ q)
+    where_natural c (λ power. find_polynomial base then (raised_at at power))))).outcome ≡ Ok p
+    → ((q : Option Meaning) → (find_polynomial base).outcome ≡ Ok q → tree_polynomial base ≡ q)
     → raised (tree_polynomial base) c ≡ p
 one_power at base None p e h = no_exponent (tree_polynomial base) ∙ same_Ok None p e
 one_power at base (Some (negsuc c)) p e h =
     let g = then_gave (within_limit Exponent (suc c) (negsuc c)) (λ c1. gives None) p e in
     negative_exponent (tree_polynomial base) c ∙ same_Ok None p g.second
 one_power at base (Some (pos c)) p e h =
-    let g = then_gave (within_limit Exponent c (pos c)) (λ c1. polynomial_sought base then (raised_at at c)) p e in
+    let g = then_gave (within_limit Exponent c (pos c)) (λ c1. find_polynomial base then (raised_at at c)) p e in
     let small : c ≤ 12 = (limit_gave Exponent c (pos c) g.value g.first).few in
-    let b = then_gave (polynomial_sought base) (raised_at at c) p g.second in
+    let b = then_gave (find_polynomial base) (raised_at at c) p g.second in
     ap (λ a. raised a (Some (pos c))) (h b.value b.first) ∙ small_exponent b.value c small
     ∙ made_gave at (λ p. of_polynomial (size_raised p c)) (λ p. poly_power p c) b.value p b.second
 
 mutual
-  pub sought_is : (t : Tree) (p : Option Meaning) → (polynomial_sought t).outcome ≡ Ok p → tree_polynomial t ≡ p
-  sought_is (tree at node) p e = node_sought_is at node p e
+  pub finding_is : (t : Tree) (p : Option Meaning) → (find_polynomial t).outcome ≡ Ok p → tree_polynomial t ≡ p
+  finding_is (tree at node) p e = find_node_is at node p e
 
-  pub node_sought_is : (at : ℕ) (node : Node) (p : Option Meaning) → (node_polynomial_sought at node).outcome ≡ Ok p → node_polynomial node ≡ p
-  node_sought_is at (literal c) p e = same_Ok (Some (in_n_and_k.whole c)) p e
-  node_sought_is at variable_n p e = same_Ok (Some poly_n) p e
-  node_sought_is at variable_k p e = same_Ok (Some poly_k) p e
-  node_sought_is at (sum_of parts) p e =
-      let g = then_gave (summands_sought parts) (made_of at (λ ps. of_polynomial (sizes_added ps)) sum_of_polynomials) p e in
+  pub find_node_is : (at : ℕ) (node : Node) (p : Option Meaning) → (find_node_polynomial at node).outcome ≡ Ok p → node_polynomial node ≡ p
+  find_node_is at (literal c) p e = same_Ok (Some (in_n_and_k.whole c)) p e
+  find_node_is at variable_n p e = same_Ok (Some poly_n) p e
+  find_node_is at variable_k p e = same_Ok (Some poly_k) p e
+  find_node_is at (sum_of parts) p e =
+      let g = then_gave (find_summands parts) (made_of at (λ ps. of_polynomial (sizes_added ps)) sum_of_polynomials) p e in
       summands_are parts g.value g.first ∙ made_gave at (λ ps. of_polynomial (sizes_added ps)) sum_of_polynomials g.value p g.second
-  node_sought_is at (product_of parts) p e =
-      let g = then_gave (factors_sought parts) (made_of at (λ ps. of_polynomial (sizes_multiplied ps)) product_of_polynomials) p e in
+  find_node_is at (product_of parts) p e =
+      let g = then_gave (find_factors parts) (made_of at (λ ps. of_polynomial (sizes_multiplied ps)) product_of_polynomials) p e in
       factors_are parts g.value g.first ∙ made_gave at (λ ps. of_polynomial (sizes_multiplied ps)) product_of_polynomials g.value p g.second
-  node_sought_is at (power_of base e) p h =
-      let g = then_gave (polynomial_sought e) (λ p. where_some (constant_of p) (λ c. within_limit Exponent (unsigned_abs c) c then (λ c1.
-      where_natural c (λ power. polynomial_sought base then (raised_at at power))))) p h in
-      ap (λ q. raised (tree_polynomial base) (constant_of q)) (sought_is e g.value g.first)
-      ∙ one_power at base (constant_of g.value) p g.second (sought_is base)
-  node_sought_is at (factorial_of t) p e = same_Ok None p e
-  node_sought_is at (binomial_of l m) p e = same_Ok None p e
+  find_node_is at (power_of base e) p h =
+      let g = then_gave (find_polynomial e) (λ p. where_some (constant_of p) (λ c. within_limit Exponent (unsigned_abs c) c then (λ c1.
+      where_natural c (λ power. find_polynomial base then (raised_at at power))))) p h in
+      ap (λ q. raised (tree_polynomial base) (constant_of q)) (finding_is e g.value g.first)
+      ∙ one_power at base (constant_of g.value) p g.second (finding_is base)
+  find_node_is at (factorial_of t) p e = same_Ok None p e
+  find_node_is at (binomial_of l m) p e = same_Ok None p e
 
-  summands_are : (parts : Parts) (ps : Option (List Meaning)) → (summands_sought parts).outcome ≡ Ok ps → sum_polynomial parts
+  summands_are : (parts : Parts) (ps : Option (List Meaning)) → (find_summands parts).outcome ≡ Ok ps → sum_polynomial parts
       ≡ where_there sum_of_polynomials ps
   summands_are no_parts ps e = ap (where_there sum_of_polynomials) (same_Ok (Some []) ps e)
   summands_are (part turned t parts) ps e =
-      let g = then_gave (polynomial_sought t) (λ p. where_some p
-      (λ p1. summands_sought parts then (λ ps. gives (in_front (signed_polynomial turned p1) ps)))) ps e in
-      ap (λ a. combined in_n_and_k.sum (signed_poly turned a) (sum_polynomial parts)) (sought_is t g.value g.first)
+      let g = then_gave (find_polynomial t) (λ p. where_some p
+      (λ p1. find_summands parts then (λ ps. gives (in_front (signed_polynomial turned p1) ps)))) ps e in
+      ap (λ a. combined in_n_and_k.sum (signed_poly turned a) (sum_polynomial parts)) (finding_is t g.value g.first)
       ∙ one_summand turned g.value parts ps g.second (summands_are parts)
 
-  factors_are : (parts : Parts) (ps : Option (List Meaning)) → (factors_sought parts).outcome ≡ Ok ps → product_polynomial parts
+  factors_are : (parts : Parts) (ps : Option (List Meaning)) → (find_factors parts).outcome ≡ Ok ps → product_polynomial parts
       ≡ where_there product_of_polynomials ps
   factors_are no_parts ps e = ap (where_there product_of_polynomials) (same_Ok (Some []) ps e)
   factors_are (part true t parts) ps e = ap (where_there product_of_polynomials) (same_Ok None ps e)
   factors_are (part false t parts) ps e =
-      let g = then_gave (polynomial_sought t) (λ p. where_some p (λ p1. factors_sought parts then (λ ps. gives (in_front p1 ps)))) ps e in
-      ap (λ a. combined in_n_and_k.product a (product_polynomial parts)) (sought_is t g.value g.first)
+      let g = then_gave (find_polynomial t) (λ p. where_some p (λ p1. find_factors parts then (λ ps. gives (in_front p1 ps)))) ps e in
+      ap (λ a. combined in_n_and_k.product a (product_polynomial parts)) (finding_is t g.value g.first)
       ∙ one_factor g.value parts ps g.second (factors_are parts)

@@ -6,12 +6,12 @@ use Rattle.term_classes.specs.Walk.{times_number, times_polynomial}
 use Rattle.steps.specs.Answers.{Answers}
 use Rattle.steps.specs.TermFaults.{term_cause}
 use Rattle.term_walk.specs.Views.{gathered_of}
-use Rattle.term_walk.proofs.SoughtPowers.{sought_number, sought_polynomial}
-use Rattle.term_walk.proofs.gathered.Gathered.times_sought.Goals as goal
+use Rattle.term_walk.proofs.FindingPowers.{finding_number, finding_polynomial}
+use Rattle.term_walk.proofs.gathered.Gathered.times_found.Goals as goal
 
 pub returns-in-Some-constant_of : goal.returns-in-Some-constant_of
 returns-in-Some-constant_of c = record {
-  answers = sought_number _ gathered_of c.times_number.result c.args.at c.args.power (gathered_of c.args.self) c.args.polynomial c.in-Some.polynomial
+  answers = finding_number _ gathered_of c.times_number.result c.args.at c.args.power (gathered_of c.args.self) c.args.polynomial c.in-Some.polynomial
       c.in-Some.is c.in-Some-constant_of.number.value c.in-Some-constant_of.ensures.constant
       (subst (λ w. Answers term_cause gathered_of (times_number c.args.at c.in-Some-constant_of.number.value w
       (gathered_of c.args.self)) c.times_number.result)
@@ -20,7 +20,7 @@ returns-in-Some-constant_of c = record {
 
 pub returns-in-None : goal.returns-in-None
 returns-in-None c = record {
-  answers = sought_polynomial _ gathered_of c.times_polynomial.result c.args.at c.args.power
+  answers = finding_polynomial _ gathered_of c.times_polynomial.result c.args.at c.args.power
       (gathered_of c.args.self) c.args.polynomial c.in-Some.polynomial
       c.in-Some.is c.in-None.ensures.constant
       (subst (λ w. Answers term_cause gathered_of (times_polynomial c.args.at (listed (map coefficient c.in-Some.polynomial.list.items)) w
