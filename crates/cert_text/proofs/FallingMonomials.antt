@@ -8,7 +8,7 @@ use Rattle.poly_laws.specs.Values.{level}
 use Rattle.hypergeometric.specs.TermFacts.{IsNumber, IsPolynomial}
 use Rattle.document_text.specs.Spelling.{Monomial, monomial_before, monomials_in_n, monomials_in_k, monomials_text, polynomial_text}
 use Rattle.document_text.proofs.Totals.{number_at}
-use Rattle.cert_text.specs.PolynomialDocument.{constant_in_n, in_k}
+use Rattle.cert_text.specs.PolynomialDocument.{as_constant_in_n, in_k}
 use Rattle.cert_text.specs.Printing.{monomial_in_k}
 use Rattle.cert_text.specs.Reading.{AreFalling, rest_text, coefficient_of}
 use Rattle.cert_text.proofs.CoefficientsAt.{none_from, coefficient_first, coefficient_other}
@@ -23,10 +23,10 @@ of_constant (pos zero) j rest = refl
 of_constant (pos (suc n)) j rest = refl
 of_constant (negsuc n) j rest = refl
 
-lifted : (cs : List Meaning) (j : ℕ) (rest : List Monomial) → monomials_in_k (map constant_in_n cs) j rest ≡ monomials cs j rest
+lifted : (cs : List Meaning) (j : ℕ) (rest : List Monomial) → monomials_in_k (map as_constant_in_n cs) j rest ≡ monomials cs j rest
 lifted [] j rest = refl
 lifted (c ∷ cs) j rest =
-    ap (λ ms. monomials_in_k (map constant_in_n cs) (suc j) ms) (of_constant (number_of c) j rest)
+    ap (λ ms. monomials_in_k (map as_constant_in_n cs) (suc j) ms) (of_constant (number_of c) j rest)
     ∙ lifted cs (suc j) (monomial_before (number_of c) 0 j rest)
 
 -- what falls below a bound falls below a greater one
@@ -103,7 +103,7 @@ of_monomials p (m ∷ ms) e falling each = record { monomials = m ∷ ms; fallin
 whole_text : (p : Meaning) → polynomial_text (in_k p) ≡ monomials_text (monomials (items p) 0 [])
 unfolding polynomial_text
 whole_text p =
-    ap (λ ps. monomials_text (monomials_in_k ps 0 [])) (parted-joined (map constant_in_n (items p))) ∙ ap monomials_text (lifted (items p) 0 [])
+    ap (λ ps. monomials_text (monomials_in_k ps 0 [])) (parted-joined (map as_constant_in_n (items p))) ∙ ap monomials_text (lifted (items p) 0 [])
 
 pub spelled : (p : Meaning) → IsPolynomial 1 p → Spelled p
 spelled p h =

@@ -7,12 +7,12 @@ use Rattle.ring_laws.specs.Meaning.{Meaning, items, parted-joined}
 use Rattle.ring_laws.specs.Wholes.{number_of}
 use Rattle.poly_laws.specs.Values.{level}
 use Rattle.document_text.specs.Spelling.{Monomial, monomial_before, monomials_in_n, monomials_in_k, first_text, later_text, monomials_text, polynomial_text, polynomial_in_n_text}
-use Rattle.cert_text.specs.PolynomialDocument.{constant_in_n, in_k}
+use Rattle.cert_text.specs.PolynomialDocument.{as_constant_in_n, in_k}
 use Rattle.cert_text.specs.Printing.{monomial_in_k, placed_text}
 
 -- the monomials of the coefficients from the power p on
 abbrev pub monomials_from : List Meaning → ℕ → List Monomial
-monomials_from cs p = monomials_in_k (map constant_in_n (drop p cs)) p []
+monomials_from cs p = monomials_in_k (map as_constant_in_n (drop p cs)) p []
 
 -- their text, nothing where there are none
 abbrev pub body_text : List Monomial → List ℕ
@@ -45,7 +45,7 @@ in_k_is (p ∷ ps) j rest =
     ∙ ap (λ r. r ++ rest) (sym (in_k_is ps (suc j) (monomials_in_n (items p) 0 j [])))
 
 -- a constant has one monomial, or none
-of_constant : (z : ℤ) (j : ℕ) (c : Meaning) → number_of c ≡ z → monomials_in_n (items (constant_in_n c)) 0 j [] ≡ monomial_before z 0 j []
+of_constant : (z : ℤ) (j : ℕ) (c : Meaning) → number_of c ≡ z → monomials_in_n (items (as_constant_in_n c)) 0 j [] ≡ monomial_before z 0 j []
 of_constant z j c e = ap (λ y. monomials_in_n (items ((level 1).ops.whole y)) 0 j []) e ∙ cases z
   where
     cases : (z : ℤ) → monomials_in_n (items ((level 1).ops.whole z)) 0 j [] ≡ monomial_before z 0 j []
@@ -61,10 +61,10 @@ before_some (negsuc n) j h = refl
 opened : (cs : List Meaning) (p : ℕ) (c : Meaning) (z : ℤ) → p < length cs → c ≡ get_or cs p c → number_of c ≡ z
     → monomials_from cs p ≡ monomials_from cs (suc p) ++ monomial_before z 0 p []
 opened cs p c z h e same =
-    ap (λ ds. monomials_in_k (map constant_in_n ds) p []) (drop-cons cs p c h)
-    ∙ ap (λ d. monomials_in_k (map constant_in_n (drop (suc p) cs)) (suc p) (monomials_in_n (items (constant_in_n d)) 0 p [])) (sym e)
-    ∙ ap (λ ms. monomials_in_k (map constant_in_n (drop (suc p) cs)) (suc p) ms) (of_constant z p c same)
-    ∙ in_k_is (map constant_in_n (drop (suc p) cs)) (suc p) (monomial_before z 0 p [])
+    ap (λ ds. monomials_in_k (map as_constant_in_n ds) p []) (drop-cons cs p c h)
+    ∙ ap (λ d. monomials_in_k (map as_constant_in_n (drop (suc p) cs)) (suc p) (monomials_in_n (items (as_constant_in_n d)) 0 p [])) (sym e)
+    ∙ ap (λ ms. monomials_in_k (map as_constant_in_n (drop (suc p) cs)) (suc p) ms) (of_constant z p c same)
+    ∙ in_k_is (map as_constant_in_n (drop (suc p) cs)) (suc p) (monomial_before z 0 p [])
 
 follow : (ms : List Monomial) (m : Monomial) → flat_map later_text (ms ++ m ∷ []) ≡ flat_map later_text ms ++ later_text m
 follow [] m = append-nil (later_text m)
@@ -85,7 +85,7 @@ pub record IsWritten (old so_far : List ℕ) (cs : List Meaning) (at_front : Boo
 
 none_past_end : (cs : List Meaning) → monomials_from cs (length cs) ≡ []
 none_past_end cs =
-    let e : drop (length cs) cs ≡ [] = grind (arith, common_steps) in ap (λ ds. monomials_in_k (map constant_in_n ds) (length cs) []) e
+    let e : drop (length cs) cs ≡ [] = grind (arith, common_steps) in ap (λ ds. monomials_in_k (map as_constant_in_n ds) (length cs) []) e
 
 pub written_at_start : (old : List ℕ) (cs : List Meaning) → IsWritten old old cs true (length cs)
 written_at_start old cs = record {
@@ -127,7 +127,7 @@ text_of_none (m ∷ ms) h = cc
 
 whole_text : (m : Meaning) → polynomial_text (in_k m) ≡ monomials_text (monomials_from (items m) 0)
 unfolding polynomial_text
-whole_text m = ap (λ ps. monomials_text (monomials_in_k ps 0 [])) (parted-joined (map constant_in_n (items m)))
+whole_text m = ap (λ ps. monomials_text (monomials_in_k ps 0 [])) (parted-joined (map as_constant_in_n (items m)))
 
 pub finished_some : (old text : List ℕ) (m : Meaning) (first : Bool) → IsWritten old text (items m) first 0 → first ≡ false
     → text ≡ old ++ polynomial_text (in_k m)

@@ -7,12 +7,12 @@ use Rattle.hypergeometric.specs.PlainTerm.{plain_term, plain_claim, unit_list}
 use Rattle.document_text.specs.Document.{Document}
 
 -- a coefficient as a polynomial in n
-abbrev pub constant_in_n : Meaning → Meaning
-constant_in_n c = (level 1).ops.whole (number_of c)
+abbrev pub as_constant_in_n : Meaning → Meaning
+as_constant_in_n c = (level 1).ops.whole (number_of c)
 
 -- a polynomial in one variable, read as one in k whose coefficients are constants in n
 abbrev pub in_k : Meaning → Meaning
-in_k p = listed (map constant_in_n (items p))
+in_k p = listed (map as_constant_in_n (items p))
 
 -- the document that says: multiplier * scale * poly(k) is the difference of carrier_scale * y(k)
 abbrev pub polynomial_document : Meaning → ℤ → ℤ → ℤ → Meaning → Document

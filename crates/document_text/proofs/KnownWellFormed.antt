@@ -1,7 +1,8 @@
--- A document that is known to be well formed: that of the sum of k^2. So the law on well-formed documents speaks of something.
+-- A document that is known to be well formed: that of the sum of k^2. So the law on well-formed documents speaks of something. And parts of
+-- documents that are not, each by one past its bound.
 use Rattle.std.specs.Prelude.{◌≡◌, ℕ, zero, suc, ◌^◌, ◌<◌, ℤ, pos, negsuc, unsigned_abs, List, [], ◌∷◌, get_or}
 use Rattle.std.specs.List.{AllByRecursion}
-use Rattle.std.proofs.Common.{refl, arith}
+use Rattle.std.proofs.Common.{refl, ap, arith}
 use Rattle.std.proofs.Math.Nat.{eq-one_of_dvd-one}
 use Rattle.std.proofs.lemmas.Int.{ints}
 use Rattle.ring_laws.specs.Meaning.{Meaning, number, listed}
@@ -9,8 +10,11 @@ use Rattle.ring_laws.specs.Wholes.{number_of}
 use Rattle.poly_laws.specs.Values.{level}
 use Rattle.hypergeometric.specs.Fraction.{of_whole}
 use Rattle.hypergeometric.specs.FormOrder.{AreFactors}
-use Rattle.hypergeometric.specs.TermFacts.{IsPolynomial, IsLowest, IsProper}
-use Rattle.document_text.specs.WellFormed.{ArePrimitiveFactors, IsFactorList, IsWellFormed}
+use Rattle.hypergeometric.specs.LinearForm.{FactorList}
+use Rattle.hypergeometric.specs.Match.{Match}
+use Rattle.hypergeometric.specs.ProperTerm.{ProperTerm}
+use Rattle.hypergeometric.specs.TermFacts.{IsPolynomial, IsLowest, IsProper, total_power}
+use Rattle.document_text.specs.WellFormed.{ArePrimitiveFactors, IsFactorList, IsCarrier, IsMatch, IsWellFormed}
 use Rattle.document_text.proofs.KnownDocuments.{squares, plain, unit_list, c, nought}
 
 -- what each item and the default keep, each coefficient keeps
@@ -116,3 +120,13 @@ squares_is_well_formed = record {
     range = tt;
   };
 }
+
+-- a list whose scale is 2^127, a carrier with 169 factorials, a match by the shift 2^64
+scale_out : (l : FactorList) → l.scale ≡ pos (2 ^ 127) → ¬ IsFactorList l
+scale_out l e h = omega (arith, ap unsigned_abs e, h.scale)
+
+carrier_out : (f : ProperTerm) → total_power f.up ≡ 169 → ¬ IsCarrier f
+carrier_out f e h = omega (arith, e, h.few)
+
+match_out : (m : Match) → m.shift ≡ 2 ^ 64 → ¬ IsMatch m
+match_out m e h = omega (arith, e, h.shift)

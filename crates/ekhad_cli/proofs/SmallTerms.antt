@@ -17,7 +17,7 @@ use Rattle.hypergeometric.specs.Point.{Point, point, values_in_n}
 use Rattle.hypergeometric.specs.ProperTerm.{ProperTerm, poly_value}
 use Rattle.hypergeometric.specs.Fraction.{of_whole}
 use Rattle.hypergeometric.specs.TermFacts.{IsPolynomial, IsProper}
-use Rattle.cert_text.specs.PolynomialDocument.{in_k, constant_in_n}
+use Rattle.cert_text.specs.PolynomialDocument.{in_k, as_constant_in_n}
 use Rattle.cert_text.proofs.LiftedPolynomials.{in_k_value, in_k_polynomial}
 use Rattle.ekhad_cli.specs.Antidifference.{value_of}
 use Rattle.ekhad_cli.specs.FirstRun.{IsSmall, IsSmallConstant, HasSmallCoefficients, IsScaledPolynomial, HasNumbers, polynomial_of}
@@ -212,7 +212,7 @@ numbers_of f cs s plain scale small_scale coefficients small few proper = record
   few = few;
   small = small;
   small_scale = small_scale;
-  some = λ e. proper.poly_not_zero (poly ∙ ap (λ xs. listed (map constant_in_n xs)) e);
+  some = λ e. proper.poly_not_zero (poly ∙ ap (λ xs. listed (map as_constant_in_n xs)) e);
   scale_not_zero = λ e. proper.scale.not_zero (ap (λ x. x.top) scale ∙ e);
 }
   where

@@ -12,7 +12,7 @@ use Rattle.hypergeometric.specs.LinearForm.{LinearForm, Factor}
 use Rattle.whole_roots.specs.LinearFactors.{Entry}
 use Rattle.hyper_laws.specs.Solutions.{IsFirstPlace}
 use Rattle.hyper_laws.specs.FactorProducts.{product_of_factors}
-use Rattle.hyper_claims.specs.Roots.{IsLess, IsLowest}
+use Rattle.hyper_claims.specs.Roots.{IsLess, HaveNoCommonDivisor}
 use Rattle.hyper_claims.specs.Pairs.{chosen, IsChoice, IsEarlier, ComesBefore, IsShiftOf}
 use Rattle.hyper_claims.specs.Claims.{HyperClaim, no_root, solution, again, case_of}
 use Rattle.hyper_claims.specs.HyperAnswer.{Gives, IsSameSolution, shifted_last}
@@ -94,7 +94,7 @@ second_given = (refl, refl, refl, refl, from_none)
     from_none = record { above = λ m e. absurd (omega (arith, ints, sym (single m) ∙ e)); least = λ place h. omega arith }
 
 -- 1/2 is in lowest terms and less than 1, and 2/4 isn't in lowest terms
-halves : IsLess (record { top = pos 1; bottom = pos 2 }) (of_whole (pos 1)) × ¬ (IsLowest (record { top = pos 2; bottom = pos 4 }))
+halves : IsLess (record { top = pos 1; bottom = pos 2 }) (of_whole (pos 1)) × ¬ (HaveNoCommonDivisor (record { top = pos 2; bottom = pos 4 }))
 halves = (omega (arith, ints), λ h. two 2 refl (h 2 (dvd_refl 2) (dvd-mul_right 2 2)))
   where
     two : (d : ℕ) → d ≡ 2 → d ≡ 1 → ⊥

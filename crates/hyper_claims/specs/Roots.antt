@@ -7,13 +7,13 @@ use Rattle.hyper_laws.specs.Cases.{IsInProfile, IsLeadRoot}
 use Rattle.hyper_claims.specs.Orders.{AreAllInOrder}
 
 -- no common divisor above 1
-abbrev pub IsLowest : Fraction → Type 0
-IsLowest z = (d : ℕ) → d ∣ unsigned_abs z.top → d ∣ unsigned_abs z.bottom → d ≡ 1
+abbrev pub HaveNoCommonDivisor : Fraction → Type 0
+HaveNoCommonDivisor z = (d : ℕ) → d ∣ unsigned_abs z.top → d ∣ unsigned_abs z.bottom → d ≡ 1
 
 -- a root of the profile, in lowest terms, for the polynomials P_i and the greatest of their degrees
 pub record IsProfileRoot (degree : ℕ) (fs : List Meaning) (z : Fraction) : Type 0 where
   pub profile : IsInProfile z
-  pub lowest : IsLowest z
+  pub lowest : HaveNoCommonDivisor z
   pub root : IsLeadRoot degree fs z
 
 -- z is less than w, where both bottoms are above 0

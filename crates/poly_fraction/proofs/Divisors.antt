@@ -10,7 +10,7 @@ use mathlib.Core.Path.{ap₂}
 use Rattle.ring_laws.specs.Meaning.{number}
 use Rattle.ring_laws.specs.WholeDomain.{abs_nought}
 use Rattle.ring_solver.proofs.Read.{ring_z, reading_z}
-use Rattle.poly_fraction.specs.LowestTerms.{IsLowest}
+use Rattle.poly_fraction.specs.LowestTerms.{IsInLowestTerms}
 
 -- it is positive, and no greater than a number that isn't 0
 pub divisor_within : (a g : ℕ) (b : ℤ) → b ≢ pos 0 → unsigned_abs b < 2 ^ 127 → IsGcd a (unsigned_abs b) g → (0 < g) × (g < 2 ^ 127)
@@ -63,7 +63,7 @@ coprime_quotients p q e a b h k some greatest d x y =
 
 -- so they are the lowest terms
 pub lowest_quotients : (p q e a b : ℤ) → p *ℤ e ≡ a → q *ℤ e ≡ b → e ≢ pos 0 → b ≢ pos 0 → ((pos 0 <ℤ e) ↔ (pos 0 <ℤ b))
-    → IsGcd (unsigned_abs a) (unsigned_abs b) (unsigned_abs e) → IsLowest (record { top = number p; bottom = number q })
+    → IsGcd (unsigned_abs a) (unsigned_abs b) (unsigned_abs e) → IsInLowestTerms (record { top = number p; bottom = number q })
 lowest_quotients p q e a b h k some not_zero sign greatest = record {
   positive = positive_quotient q e b k not_zero sign;
   coprime = coprime_quotients p q e a b h k some greatest;

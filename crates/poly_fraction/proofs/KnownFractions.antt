@@ -7,7 +7,7 @@ use Rattle.ring_laws.specs.Meaning.{number, listed}
 use Rattle.ring_laws.specs.Wholes.{whole_algebra}
 use Rattle.poly_laws.specs.PolyAlgebra.{poly_algebra}
 use Rattle.poly_fraction.specs.Fractions.{RingFraction, sum_of_fractions, difference_of_fractions, product_of_fractions, AreSame, FractionSumInBounds}
-use Rattle.poly_fraction.specs.LowestTerms.{IsLowest}
+use Rattle.poly_fraction.specs.LowestTerms.{IsInLowestTerms}
 
 abbrev of_numbers : ℤ → ℤ → RingFraction
 of_numbers top bottom = record { top = number top; bottom = number bottom }
@@ -39,8 +39,8 @@ known_bounds : FractionSumInBounds whole_algebra (of_numbers (pos 1) (pos 3)) (o
 known_bounds b = (b.top, b.bottom)
 
 -- 2/6 and -1/-3 aren't in lowest terms
-known_common_divisor : ¬ IsLowest (of_numbers (pos 2) (pos 6))
+known_common_divisor : ¬ IsInLowestTerms (of_numbers (pos 2) (pos 6))
 known_common_divisor h = let e : 2 ≡ 1 = h.coprime 2 (dvd_of_mod-eq-zero 2 refl) (dvd_of_mod-eq-zero 2 refl) in omega (arith, e)
 
-known_negative_bottom : ¬ IsLowest (of_numbers (negsuc 0) (negsuc 2))
+known_negative_bottom : ¬ IsInLowestTerms (of_numbers (negsuc 0) (negsuc 2))
 known_negative_bottom h = omega (arith, ints, h.positive)

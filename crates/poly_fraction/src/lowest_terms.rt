@@ -4,7 +4,7 @@ ghost use Rattle.std.specs.Prelude.{◌≡◌, ◌≢◌, pos, ◌*ℤ◌, ◌<�
 ghost use Rattle.std.specs.Int.{◌∣◌, IsGcd};
 ghost use Rattle.poly_fraction.specs.Fractions.{AreSame};
 ghost use Rattle.poly_fraction.specs.FractionOf.{fraction_of};
-ghost use Rattle.poly_fraction.specs.LowestTerms.{IsLowest};
+ghost use Rattle.poly_fraction.specs.LowestTerms.{IsInLowestTerms};
 
 use crate::fractions::Frac;
 use ring_laws::{Ring, Whole, gcd_whole};
@@ -12,7 +12,7 @@ use ring_laws::{Ring, Whole, gcd_whole};
 /// The same fraction in lowest terms: with a positive denominator and no common divisor above 1. It takes no memory.
 pub fn lowest(f: &Frac<Whole>) -> Frac<Whole>
     ensures same { AreSame ⟦<Whole as Ring>⟧.algebra.ops (fraction_of result) (fraction_of f.now) }
-    ensures lowest { IsLowest (fraction_of result) }
+    ensures lowest { IsInLowestTerms (fraction_of result) }
 {
     let top = *f.top();
     let bottom = *f.bottom();

@@ -11,7 +11,7 @@ use Rattle.ring_laws.specs.declared.faults.RingFault.{RingFault}
 use Rattle.poly_fraction.specs.Fractions.{RingFraction}
 use Rattle.hypergeometric.specs.Fraction.{Fraction, fraction_product}
 use Rattle.hypergeometric.proofs.FractionLaws.{product_not_zero}
-use Rattle.proper_term.specs.Fields.{number_fraction, whole_fraction}
+use Rattle.proper_term.specs.Fields.{number_fraction, number_fraction_of}
 use Rattle.proper_term.specs.Runs.{IsInLowestTerms, IsReduced, Runs, RunsInBounds, GivesRun}
 
 square : (z : ℤ) → unsigned_abs z ≡ 1 → z *ℤ z ≡ pos 1
@@ -88,7 +88,7 @@ module _ (r : Fraction) (v : ℤ) (unit : unsigned_abs v ≡ 1) (lowest : IsInLo
   pub by_last_digit : {T : Type 0} (fraction : T → RingFraction) (count : ℕ) (result : Result T RingFault)
       → GivesRun fraction r (replicate (count % 2) over) result → GivesRun fraction r (replicate count over) result
   by_last_digit fraction count (Ok f) h =
-      subst (λ n. Runs r (replicate n over) (whole_fraction (fraction f))) (halves count) (runs_on (count / 2) (count % 2) (whole_fraction
+      subst (λ n. Runs r (replicate n over) (number_fraction_of (fraction f))) (halves count) (runs_on (count / 2) (count % 2) (number_fraction_of
       (fraction f)) h)
   by_last_digit fraction count (Err fault) h =
       fault_weaker fault (λ n b. n (bounds_on (count / 2) (count % 2) (subst (λ m. RunsInBounds r (replicate m over)) (sym (halves count)) b))) h

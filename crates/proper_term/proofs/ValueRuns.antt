@@ -12,7 +12,7 @@ use Rattle.hypergeometric.specs.ProperTerm.{ProperTerm, IsDefinedAt, NoneNegativ
 use Rattle.hypergeometric.specs.TermFacts.{IsLowest, IsProper}
 use Rattle.hypergeometric.proofs.FractionLaws.{product_not_zero, equal_chain, pow_not_zero}
 use Rattle.proper_term.specs.Cancelled.{arguments_at, left_over}
-use Rattle.proper_term.specs.Fields.{whole_fraction}
+use Rattle.proper_term.specs.Fields.{number_fraction_of}
 use Rattle.proper_term.specs.Runs.{IsInLowestTerms, Runs, GivesRun, product_of}
 use Rattle.proper_term.specs.ValueBounds.{turned, base_power, factorial_factors, value_factors, IsRunInBounds}
 use Rattle.proper_term.proofs.CancelledFactorials.{left_over_positive}
@@ -24,7 +24,7 @@ use Rattle.proper_term.proofs.ValueProducts.{factors_value}
 -- one run and then the next
 pub run_then : {T : Type 0} (fraction : T → RingFraction) (r : Fraction) (xs : List Fraction) (s : Fraction) (ys : List Fraction)
     (result : Result T RingFault) → Runs r xs s → GivesRun fraction s ys result → GivesRun fraction r (xs ++ ys) result
-run_then fraction r xs s ys (Ok f) h g = runs_join r xs s ys (whole_fraction (fraction f)) h g
+run_then fraction r xs s ys (Ok f) h g = runs_join r xs s ys (number_fraction_of (fraction f)) h g
 run_then fraction r xs s ys (Err fault) h g = fault_weaker fault (λ n b. n (bounds_after r xs s ys h b)) g
 
 -- a run over a factor other than 0 stays other than 0
@@ -64,15 +64,15 @@ proper_fractions f h = record {
 module _ {T : Type 0} (fraction : T → RingFraction) (f : ProperTerm) (p : Point) (proper : IsProper f) where
   pub value_of_run : (result : Result T RingFault) → IsDefinedAt f p → NoneNegative f.down p → GivesRun fraction f.scale
       (value_factors f p) result
-      → IfOk result (λ g. whole_fraction (fraction g) ≈ proper_value f p)
+      → IfOk result (λ g. number_fraction_of (fraction g) ≈ proper_value f p)
   value_of_run (Ok g) defined down h =
-      equal_chain (run_value f.scale (value_factors f p) (whole_fraction (fraction g)) h (positive_not_zero f.scale.bottom proper.scale.positive))
+      equal_chain (run_value f.scale (value_factors f p) (number_fraction_of (fraction g)) h (positive_not_zero f.scale.bottom proper.scale.positive))
       (factors_value f p (proper_fractions f proper) defined down)
   value_of_run (Err fault) defined down h = tt
 
   pub lowest_of_run : (result : Result T RingFault) → GivesRun fraction f.scale (value_factors f p) result
-      → IfOk result (λ g. IsInLowestTerms (whole_fraction (fraction g)))
-  lowest_of_run (Ok g) h = run_lowest f.scale (value_factors f p) (whole_fraction (fraction g)) h (lowest_terms f.scale proper.scale)
+      → IfOk result (λ g. IsInLowestTerms (number_fraction_of (fraction g)))
+  lowest_of_run (Ok g) h = run_lowest f.scale (value_factors f p) (number_fraction_of (fraction g)) h (lowest_terms f.scale proper.scale)
   lowest_of_run (Err fault) h = tt
 
   pub fault_of_run : (result : Result T RingFault) → GivesRun fraction f.scale (value_factors f p) result

@@ -11,8 +11,8 @@ abbrev pub number_fraction : ℤ → ℤ → Fraction
 number_fraction top bottom = record { top = top; bottom = bottom }
 
 -- a fraction over the ring of the whole numbers as a fraction of numbers
-abbrev pub whole_fraction : RingFraction → Fraction
-whole_fraction f = number_fraction (number_of f.top) (number_of f.bottom)
+abbrev pub number_fraction_of : RingFraction → Fraction
+number_fraction_of f = number_fraction (number_of f.top) (number_of f.bottom)
 
 -- the term with this polynomial, this scale, these bases, and the forms of these lists
 abbrev pub term_with : Meaning → Fraction → Fraction → Fraction → FactorList → FactorList → FactorList → FactorList → ProperTerm

@@ -6,7 +6,7 @@ use Rattle.ring_laws.specs.declared.faults.RingFault.{RingFault}
 use Rattle.poly_fraction.specs.Fractions.{RingFraction}
 use Rattle.hypergeometric.specs.Fraction.{Fraction, ◌≈◌, of_whole, fraction_product}
 use Rattle.hypergeometric.specs.TermFacts.{IsNumber}
-use Rattle.proper_term.specs.Fields.{whole_fraction}
+use Rattle.proper_term.specs.Fields.{number_fraction_of}
 
 -- a positive denominator, and no common divisor above 1
 pub record IsInLowestTerms (f : Fraction) : Type 0 where
@@ -35,7 +35,7 @@ Runs r (x ∷ xs) s = (t : Fraction) × IsReduced t (fraction_product r x) × Ru
 
 -- where the run from r ends; `TooLarge` comes only where the run isn't in bounds
 abbrev pub GivesRun : {T : Type 0} → (T → RingFraction) → Fraction → List Fraction → Result T RingFault → Type 0
-GivesRun fraction r xs (Ok f) = Runs r xs (whole_fraction (fraction f))
+GivesRun fraction r xs (Ok f) = Runs r xs (number_fraction_of (fraction f))
 GivesRun fraction r xs (Err fault) = OnFault (¬ RunsInBounds r xs) fault
 
 -- the product of all factors

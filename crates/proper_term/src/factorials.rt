@@ -4,7 +4,7 @@ ghost use Rattle.std.specs.Prelude.{map};
 ghost use Rattle.poly_fraction.specs.FractionOf.{fraction_of};
 ghost use Rattle.proper_term.specs.Cancelled.{left_over, quotients};
 ghost use Rattle.proper_term.specs.Cursors.{argument_of};
-ghost use Rattle.proper_term.specs.Fields.{whole_fraction};
+ghost use Rattle.proper_term.specs.Fields.{number_fraction_of};
 ghost use Rattle.proper_term.specs.Runs.{GivesRun};
 
 use crate::argument::Argument;
@@ -22,7 +22,7 @@ pub(crate) fn times_factorials(
     above: &[Argument],
     below: &[Argument],
 ) -> Result<Frac<Whole>, RingFault>
-    ensures run { GivesRun fraction_of (whole_fraction (fraction_of running))
+    ensures run { GivesRun fraction_of (number_fraction_of (fraction_of running))
         (quotients (left_over (map argument_of above.now) (map argument_of below.now)) (left_over (map argument_of below.now)
         (map argument_of above.now))) result }
 {

@@ -7,7 +7,7 @@ ghost use Rattle.hypergeometric.specs.TermFacts.{IsLowest, IsNotConstant, IsProp
 ghost use Rattle.lin_form.specs.Forms.{form_of};
 ghost use Rattle.lin_form.specs.ListOf.{list_of};
 ghost use Rattle.poly_fraction.specs.FractionOf.{fraction_of};
-ghost use Rattle.proper_term.specs.Fields.{whole_fraction, number_fraction, HaveUnitScales, term_with};
+ghost use Rattle.proper_term.specs.Fields.{number_fraction_of, number_fraction, HaveUnitScales, term_with};
 
 use lin_form::{FactorList, LinForm};
 use poly_fraction::Frac;
@@ -33,7 +33,7 @@ fn are_lowest_parts(top: Whole, bottom: Whole) -> bool
 
 // The same of a fraction.
 fn is_lowest(f: &Frac<Whole>) -> bool
-    ensures test { IsTrue result ↔ IsLowest (whole_fraction (fraction_of f.now)) }
+    ensures test { IsTrue result ↔ IsLowest (number_fraction_of (fraction_of f.now)) }
 {
     are_lowest_parts(*f.top(), *f.bottom())
 }
@@ -92,8 +92,8 @@ fn are_divisors(list: &FactorList) -> bool
 
 // Whether the three fractions are other than 0, in lowest terms, with positive denominators.
 fn are_lowest(scale: &Frac<Whole>, n_base: &Frac<Whole>, k_base: &Frac<Whole>) -> bool
-    ensures test { IsTrue result ↔ (IsLowest (whole_fraction (fraction_of scale.now)) × IsLowest (whole_fraction (fraction_of n_base.now))
-        × IsLowest (whole_fraction (fraction_of k_base.now))) }
+    ensures test { IsTrue result ↔ (IsLowest (number_fraction_of (fraction_of scale.now)) × IsLowest (number_fraction_of (fraction_of n_base.now))
+        × IsLowest (number_fraction_of (fraction_of k_base.now))) }
 {
     is_lowest(scale) && is_lowest(n_base) && is_lowest(k_base)
 }
@@ -109,8 +109,8 @@ pub(crate) fn keep_facts(
     over: &FactorList,
     guard: &FactorList,
 ) -> bool
-    ensures test { IsTrue result ↔ (IsProper (term_with (⟦<Znk as Ring>⟧.meaning poly.now) (whole_fraction (fraction_of scale.now))
-        (whole_fraction (fraction_of n_base.now)) (whole_fraction (fraction_of k_base.now)) (list_of up.now) (list_of down.now)
+    ensures test { IsTrue result ↔ (IsProper (term_with (⟦<Znk as Ring>⟧.meaning poly.now) (number_fraction_of (fraction_of scale.now))
+        (number_fraction_of (fraction_of n_base.now)) (number_fraction_of (fraction_of k_base.now)) (list_of up.now) (list_of down.now)
         (list_of over.now) (list_of guard.now)) × HaveUnitScales (list_of up.now) (list_of down.now) (list_of over.now) (list_of guard.now)) }
 {
     if poly.is_zero() {

@@ -3,7 +3,7 @@
 ghost use Rattle.hypergeometric.specs.TermFacts.{IsProper};
 ghost use Rattle.lin_form.specs.ListOf.{list_of};
 ghost use Rattle.poly_fraction.specs.FractionOf.{fraction_of};
-ghost use Rattle.proper_term.specs.Fields.{term_with, HaveUnitScales, whole_fraction};
+ghost use Rattle.proper_term.specs.Fields.{term_with, HaveUnitScales, number_fraction_of};
 ghost use Rattle.proper_term.specs.OneProof.{proper_once, scales_once};
 
 use crate::facts::keep_facts;
@@ -30,10 +30,10 @@ pub struct Proper {
     guard: FactorList,
     ghost unit_scales: { HaveUnitScales (list_of up) (list_of down) (list_of over) (list_of guard) } by { scales_once (list_of up) (list_of down)
         (list_of over) (list_of guard) },
-    ghost proper: { IsProper (term_with (⟦<Znk as Ring>⟧.meaning poly) (whole_fraction (fraction_of scale)) (whole_fraction (fraction_of n_base))
-        (whole_fraction (fraction_of k_base)) (list_of up) (list_of down) (list_of over) (list_of guard)) } by { proper_once (term_with
-            (⟦<Znk as Ring>⟧.meaning poly) (whole_fraction (fraction_of scale)) (whole_fraction (fraction_of n_base))
-            (whole_fraction (fraction_of k_base)) (list_of up) (list_of down) (list_of over) (list_of guard)) },
+    ghost proper: { IsProper (term_with (⟦<Znk as Ring>⟧.meaning poly) (number_fraction_of (fraction_of scale)) (number_fraction_of (fraction_of n_base))
+        (number_fraction_of (fraction_of k_base)) (list_of up) (list_of down) (list_of over) (list_of guard)) } by { proper_once (term_with
+            (⟦<Znk as Ring>⟧.meaning poly) (number_fraction_of (fraction_of scale)) (number_fraction_of (fraction_of n_base))
+            (number_fraction_of (fraction_of k_base)) (list_of up) (list_of down) (list_of over) (list_of guard)) },
 }
 
 impl Proper {
@@ -41,7 +41,7 @@ impl Proper {
     ghost use Rattle.hypergeometric.specs.TermFacts.{IsProper};
     ghost use Rattle.lin_form.specs.ListOf.{list_of};
     ghost use Rattle.poly_fraction.specs.FractionOf.{fraction_of};
-    ghost use Rattle.proper_term.specs.Fields.{whole_fraction, term_with, HaveUnitScales};
+    ghost use Rattle.proper_term.specs.Fields.{number_fraction_of, term_with, HaveUnitScales};
     ghost use Rattle.proper_term.specs.TermOf.{term_of};
 
     /// The term with these fields, `None` exactly where one of the facts of every proper term fails. It takes no memory.
@@ -56,11 +56,11 @@ impl Proper {
         guard: FactorList,
     ) -> Option<Proper>
         ensures given { MatchOption result
-            (¬ (IsProper (term_with (⟦<Znk as Ring>⟧.meaning poly) (whole_fraction (fraction_of scale)) (whole_fraction (fraction_of n_base))
-            (whole_fraction (fraction_of k_base)) (list_of up) (list_of down) (list_of over) (list_of guard))
+            (¬ (IsProper (term_with (⟦<Znk as Ring>⟧.meaning poly) (number_fraction_of (fraction_of scale)) (number_fraction_of (fraction_of n_base))
+            (number_fraction_of (fraction_of k_base)) (list_of up) (list_of down) (list_of over) (list_of guard))
             × HaveUnitScales (list_of up) (list_of down) (list_of over) (list_of guard)))
-            (λ term. term_of term ≡ term_with (⟦<Znk as Ring>⟧.meaning poly) (whole_fraction (fraction_of scale))
-            (whole_fraction (fraction_of n_base)) (whole_fraction (fraction_of k_base)) (list_of up) (list_of down) (list_of over) (list_of guard)) }
+            (λ term. term_of term ≡ term_with (⟦<Znk as Ring>⟧.meaning poly) (number_fraction_of (fraction_of scale))
+            (number_fraction_of (fraction_of n_base)) (number_fraction_of (fraction_of k_base)) (list_of up) (list_of down) (list_of over) (list_of guard)) }
     {
         if !keep_facts(&poly, &scale, &n_base, &k_base, &up, &down, &over, &guard) {
             return None;
@@ -87,7 +87,7 @@ impl Proper {
 
     /// The number that the rest is multiplied by.
     pub fn scale(&self) -> &Frac<Whole>
-        ensures scale { whole_fraction (fraction_of result.now) ≡ (term_of self.now).scale }
+        ensures scale { number_fraction_of (fraction_of result.now) ≡ (term_of self.now).scale }
         ensures proper { IsProper (term_of self.now) }
     {
         &self.scale
@@ -95,7 +95,7 @@ impl Proper {
 
     /// The base of the power n.
     pub fn n_base(&self) -> &Frac<Whole>
-        ensures n_base { whole_fraction (fraction_of result.now) ≡ (term_of self.now).n_base }
+        ensures n_base { number_fraction_of (fraction_of result.now) ≡ (term_of self.now).n_base }
         ensures proper { IsProper (term_of self.now) }
     {
         &self.n_base
@@ -103,7 +103,7 @@ impl Proper {
 
     /// The base of the power k.
     pub fn k_base(&self) -> &Frac<Whole>
-        ensures k_base { whole_fraction (fraction_of result.now) ≡ (term_of self.now).k_base }
+        ensures k_base { number_fraction_of (fraction_of result.now) ≡ (term_of self.now).k_base }
         ensures proper { IsProper (term_of self.now) }
     {
         &self.k_base

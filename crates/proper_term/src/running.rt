@@ -9,7 +9,7 @@ ghost use Rattle.hypergeometric.specs.LinearForm.{form_value};
 ghost use Rattle.hypergeometric.specs.TermFacts.{IsNumber};
 ghost use Rattle.lin_form.specs.ListOf.{list_of};
 ghost use Rattle.poly_fraction.specs.FractionOf.{fraction_of};
-ghost use Rattle.proper_term.specs.Fields.{whole_fraction, number_fraction};
+ghost use Rattle.proper_term.specs.Fields.{number_fraction_of, number_fraction};
 ghost use Rattle.proper_term.specs.Points.{point_of};
 ghost use Rattle.proper_term.specs.Runs.{GivesRun, IsInLowestTerms};
 ghost use Rattle.proper_term.specs.ValueBounds.{base_power, divisors};
@@ -29,7 +29,7 @@ pub(crate) fn times(
     bottom: Whole,
 ) -> Result<Frac<Whole>, RingFault>
     requires not_zero { bottom.value ≢ pos 0 }
-    ensures run { GivesRun fraction_of (whole_fraction (fraction_of running.now)) (number_fraction top.value bottom.value ∷ []) result }
+    ensures run { GivesRun fraction_of (number_fraction_of (fraction_of running.now)) (number_fraction top.value bottom.value ∷ []) result }
 {
     let factor = Frac::new(top, bottom).unwrap();
     let product = running.mul(alloc, &factor)?;
@@ -72,10 +72,10 @@ fn times_natural_power(
     bottom: Whole,
     exponent: u64,
 ) -> Result<Frac<Whole>, RingFault>
-    requires running { (whole_fraction (fraction_of running.now)).top ≢ pos 0 }
+    requires running { (number_fraction_of (fraction_of running.now)).top ≢ pos 0 }
     requires top { top.value ≢ pos 0 }
     requires bottom { bottom.value ≢ pos 0 }
-    ensures run { GivesRun fraction_of (whole_fraction (fraction_of running.now)) (natural_power
+    ensures run { GivesRun fraction_of (number_fraction_of (fraction_of running.now)) (natural_power
         (number_fraction top.value bottom.value) exponent ∷ []) result }
 {
     let top = power(alloc, top, exponent)?;
@@ -90,9 +90,9 @@ pub(crate) fn times_power(
     base: &Frac<Whole>,
     exponent: i64,
 ) -> Result<Frac<Whole>, RingFault>
-    requires running { (whole_fraction (fraction_of running.now)).top ≢ pos 0 }
-    requires base { (whole_fraction (fraction_of base.now)).top ≢ pos 0 }
-    ensures run { GivesRun fraction_of (whole_fraction (fraction_of running.now)) (base_power (whole_fraction
+    requires running { (number_fraction_of (fraction_of running.now)).top ≢ pos 0 }
+    requires base { (number_fraction_of (fraction_of base.now)).top ≢ pos 0 }
+    ensures run { GivesRun fraction_of (number_fraction_of (fraction_of running.now)) (base_power (number_fraction_of
         (fraction_of base.now)) exponent ∷ []) result }
 {
     let times = exponent.unsigned_abs();
@@ -111,7 +111,7 @@ fn over_repeated(
     count: u32,
 ) -> Result<Frac<Whole>, RingFault>
     requires number { number.value ≢ pos 0 }
-    ensures run { GivesRun fraction_of (whole_fraction (fraction_of running)) (replicate count (number_fraction (pos 1) number.value)) result }
+    ensures run { GivesRun fraction_of (number_fraction_of (fraction_of running)) (replicate count (number_fraction (pos 1) number.value)) result }
 {
     let one = Whole::one(alloc)?;
     let mut running = running;
@@ -131,8 +131,8 @@ fn over_number(
     count: u32,
 ) -> Result<Frac<Whole>, RingFault>
     requires number { number.value ≢ pos 0 }
-    requires lowest { IsInLowestTerms (whole_fraction (fraction_of running)) }
-    ensures run { GivesRun fraction_of (whole_fraction (fraction_of running)) (replicate count (number_fraction (pos 1) number.value)) result }
+    requires lowest { IsInLowestTerms (number_fraction_of (fraction_of running)) }
+    ensures run { GivesRun fraction_of (number_fraction_of (fraction_of running)) (replicate count (number_fraction (pos 1) number.value)) result }
 {
     if magnitude(number) == 1 {
         over_repeated(alloc, running, number, count % 2)
@@ -149,8 +149,8 @@ pub(crate) fn over_forms(
     point: Point,
 ) -> Result<Frac<Whole>, RingFault>
     requires none_zero { AllByRecursion (λ x. form_value x.form (point_of point) ≢ pos 0) (list_of over.now).factors }
-    requires lowest { IsInLowestTerms (whole_fraction (fraction_of running)) }
-    ensures run { GivesRun fraction_of (whole_fraction (fraction_of running)) (divisors (list_of over.now).factors (point_of point)) result }
+    requires lowest { IsInLowestTerms (number_fraction_of (fraction_of running)) }
+    ensures run { GivesRun fraction_of (number_fraction_of (fraction_of running)) (divisors (list_of over.now).factors (point_of point)) result }
 {
     let mut running = running;
     for index in 0..over.len() {

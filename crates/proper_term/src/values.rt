@@ -6,7 +6,7 @@ ghost use Rattle.hypergeometric.specs.Point.{point};
 ghost use Rattle.hypergeometric.specs.Fraction.{◌≈◌, of_whole};
 ghost use Rattle.hypergeometric.specs.ProperTerm.{IsDefinedAt, NoneNegative, NoneZero, poly_value, proper_value};
 ghost use Rattle.poly_fraction.specs.FractionOf.{fraction_of};
-ghost use Rattle.proper_term.specs.Fields.{whole_fraction};
+ghost use Rattle.proper_term.specs.Fields.{number_fraction_of};
 ghost use Rattle.proper_term.specs.Points.{point_of};
 ghost use Rattle.proper_term.specs.Runs.{GivesRun, IsInLowestTerms};
 ghost use Rattle.proper_term.specs.TermOf.{term_of};
@@ -30,8 +30,8 @@ use std::alloc::Global;
 /// each product, before it is brought to lowest terms, has to have numerator and denominator below 2^127.
 pub fn value(alloc: Global, term: &Proper, n: i64, k: i64) -> Result<Option<Frac<Whole>>, RingFault>
     ensures none { IfOk result (λ found. IsNone found ↔ ¬ IsDefinedAt (term_of term.now) (point n k)) }
-    ensures value { IfOk result (λ found. IfSome found (λ f. whole_fraction (fraction_of f) ≈ proper_value (term_of term.now) (point n k))) }
-    ensures lowest { IfOk result (λ found. IfSome found (λ f. IsInLowestTerms (whole_fraction (fraction_of f)))) }
+    ensures value { IfOk result (λ found. IfSome found (λ f. number_fraction_of (fraction_of f) ≈ proper_value (term_of term.now) (point n k))) }
+    ensures lowest { IfOk result (λ found. IfSome found (λ f. IsInLowestTerms (number_fraction_of (fraction_of f)))) }
     ensures too_large { IfErr result (OnFault (¬ ValueInBounds (term_of term.now) (point n k))) }
 {
     let point = Point { n, k };
@@ -45,8 +45,8 @@ pub fn value(alloc: Global, term: &Proper, n: i64, k: i64) -> Result<Option<Frac
 // The value where the term is defined. A factorial below at a negative number makes it 0.
 fn defined_value(alloc: Global, term: &Proper, point: Point) -> Result<Frac<Whole>, RingFault>
     requires defined { IsDefinedAt (term_of term.now) (point_of point) }
-    ensures value { IfOk result (λ f. whole_fraction (fraction_of f) ≈ proper_value (term_of term.now) (point_of point)) }
-    ensures lowest { IfOk result (λ f. IsInLowestTerms (whole_fraction (fraction_of f))) }
+    ensures value { IfOk result (λ f. number_fraction_of (fraction_of f) ≈ proper_value (term_of term.now) (point_of point)) }
+    ensures lowest { IfOk result (λ f. IsInLowestTerms (number_fraction_of (fraction_of f))) }
     ensures too_large { IfErr result (OnFault (¬ ValueInBounds (term_of term.now) (point_of point))) }
 {
     if !none_negative(term.down(), point) {
@@ -57,8 +57,8 @@ fn defined_value(alloc: Global, term: &Proper, point: Point) -> Result<Frac<Whol
 
 // 0 over 1.
 fn zero() -> Frac<Whole>
-    ensures top { (whole_fraction (fraction_of result)).top ≡ pos 0 }
-    ensures bottom { (whole_fraction (fraction_of result)).bottom ≡ pos 1 }
+    ensures top { (number_fraction_of (fraction_of result)).top ≡ pos 0 }
+    ensures bottom { (number_fraction_of (fraction_of result)).bottom ≡ pos 1 }
 {
     Frac::new(Whole::ZERO, Whole::ONE).unwrap()
 }
@@ -67,8 +67,8 @@ fn zero() -> Frac<Whole>
 fn product_value(alloc: Global, term: &Proper, point: Point) -> Result<Frac<Whole>, RingFault>
     requires defined { IsDefinedAt (term_of term.now) (point_of point) }
     requires down { NoneNegative (term_of term.now).down (point_of point) }
-    ensures value { IfOk result (λ f. whole_fraction (fraction_of f) ≈ proper_value (term_of term.now) (point_of point)) }
-    ensures lowest { IfOk result (λ f. IsInLowestTerms (whole_fraction (fraction_of f))) }
+    ensures value { IfOk result (λ f. number_fraction_of (fraction_of f) ≈ proper_value (term_of term.now) (point_of point)) }
+    ensures lowest { IfOk result (λ f. IsInLowestTerms (number_fraction_of (fraction_of f))) }
     ensures too_large { IfErr result (OnFault (¬ IsRunInBounds (term_of term.now) (point_of point))) }
 {
     let running = scaled_factorials(alloc, term, point)?;
@@ -99,7 +99,7 @@ fn scaled_factorials(alloc: Global, term: &Proper, point: Point) -> Result<Frac<
 
 // The same fraction once more.
 fn copy_of(f: &Frac<Whole>) -> Frac<Whole>
-    ensures same { whole_fraction (fraction_of result) ≡ whole_fraction (fraction_of f.now) }
+    ensures same { number_fraction_of (fraction_of result) ≡ number_fraction_of (fraction_of f.now) }
 {
     Frac::new(*f.top(), *f.bottom()).unwrap()
 }
@@ -111,8 +111,8 @@ fn times_n_power(
     term: &Proper,
     point: Point,
 ) -> Result<Frac<Whole>, RingFault>
-    requires running { (whole_fraction (fraction_of running.now)).top ≢ pos 0 }
-    ensures run { GivesRun fraction_of (whole_fraction (fraction_of running.now)) (base_power (term_of term.now).n_base point.n ∷ []) result }
+    requires running { (number_fraction_of (fraction_of running.now)).top ≢ pos 0 }
+    ensures run { GivesRun fraction_of (number_fraction_of (fraction_of running.now)) (base_power (term_of term.now).n_base point.n ∷ []) result }
 {
     times_power(alloc, running, term.n_base(), point.n)
 }
@@ -124,8 +124,8 @@ fn times_k_power(
     term: &Proper,
     point: Point,
 ) -> Result<Frac<Whole>, RingFault>
-    requires running { (whole_fraction (fraction_of running.now)).top ≢ pos 0 }
-    ensures run { GivesRun fraction_of (whole_fraction (fraction_of running.now)) (base_power (term_of term.now).k_base point.k ∷ []) result }
+    requires running { (number_fraction_of (fraction_of running.now)).top ≢ pos 0 }
+    ensures run { GivesRun fraction_of (number_fraction_of (fraction_of running.now)) (base_power (term_of term.now).k_base point.k ∷ []) result }
 {
     times_power(alloc, running, term.k_base(), point.k)
 }
@@ -138,8 +138,8 @@ fn over_divisors(
     point: Point,
 ) -> Result<Frac<Whole>, RingFault>
     requires over { NoneZero (term_of term.now).over (point_of point) }
-    requires lowest { IsInLowestTerms (whole_fraction (fraction_of running)) }
-    ensures run { GivesRun fraction_of (whole_fraction (fraction_of running)) (divisors (term_of term.now).over (point_of point)) result }
+    requires lowest { IsInLowestTerms (number_fraction_of (fraction_of running)) }
+    ensures run { GivesRun fraction_of (number_fraction_of (fraction_of running)) (divisors (term_of term.now).over (point_of point)) result }
 {
     over_forms(alloc, running, term.over(), point)
 }
@@ -153,9 +153,9 @@ fn times_factors(
     point: Point,
 ) -> Result<Frac<Whole>, RingFault>
     requires over { NoneZero (term_of term.now).over (point_of point) }
-    requires running { (whole_fraction (fraction_of running.now)).top ≢ pos 0 }
+    requires running { (number_fraction_of (fraction_of running.now)).top ≢ pos 0 }
     requires poly { poly.value ≢ pos 0 }
-    ensures run { GivesRun fraction_of (whole_fraction (fraction_of running.now)) (of_whole poly.value ∷ base_power (term_of term.now).n_base point.n
+    ensures run { GivesRun fraction_of (number_fraction_of (fraction_of running.now)) (of_whole poly.value ∷ base_power (term_of term.now).n_base point.n
         ∷ base_power (term_of term.now).k_base point.k ∷ divisors (term_of term.now).over (point_of point)) result }
 {
     let running = times(alloc, running, poly, Whole::ONE)?;

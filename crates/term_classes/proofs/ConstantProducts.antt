@@ -23,7 +23,7 @@ use Rattle.hypergeometric.proofs.LowestTerms.{lowest_same, lowest_bottom_zero}
 use Rattle.grammar.specs.Tree.{Tree, Node, Parts, part}
 use Rattle.term_classes.specs.TreePolynomial.{node_polynomial}
 use Rattle.term_classes.specs.TreeValue.{tree_value, node_value, product_value, part_power}
-use Rattle.term_classes.specs.Finding.{FractionFactor, divides_by_zero, factor_fraction, product_of_fractions, product_made, power_made, whole_fraction, find_constant, find_node_constant, find_constants, top_sizes, bottom_sizes}
+use Rattle.term_classes.specs.Finding.{FractionFactor, divides_by_zero, factor_fraction, product_of_fractions, product_made, power_made, fraction_of_whole, find_constant, find_node_constant, find_constants, top_sizes, bottom_sizes}
 use Rattle.term_classes.proofs.PolynomialValues.{node_has}
 use Rattle.term_classes.proofs.PolynomialParts.{power_value}
 use Rattle.term_classes.proofs.ConstantPowers.{IsConstant, constant_value, power_made_has, unless_given, not_zero}
@@ -107,7 +107,7 @@ power_found at base (Some c) f other e h =
     let b = then_gave (find_constant base) (λ f. where_some f (power_made at c)) (Some f) g.second in
     some_power at base c b.value f other b.first b.second h
 
-whole_given : (q : Meaning) (c : Option ℤ) (f : Fraction) → whole_fraction c ≡ Some f → constant_in_k (items q) ≡ c
+whole_given : (q : Meaning) (c : Option ℤ) (f : Fraction) → fraction_of_whole c ≡ Some f → constant_in_k (items q) ≡ c
     → (value : ℤ → Point → Fraction) → ((w : ℤ) (p : Point) → value w p ≅ whole_power (of_whole (poly_value q p)) w) → IsConstant f value
 whole_given q None f e constant value h = absurd (none-some f e)
 whole_given q (Some z) f e constant value h = subst (λ f. IsConstant f value) (same_Some (of_whole z) f e) (record {
@@ -118,11 +118,11 @@ whole_given q (Some z) f e constant value h = subst (λ f. IsConstant f value) (
 -- by its polynomial, or else by its other cases
 pub constant_or : (at : ℕ) (node : Node) (p : Option Meaning) (f : Fraction) → node_polynomial node ≡ p
     → (elim p as (λ _. TermSteps (Option Fraction)) [
-      | Some q ↦ gives (whole_fraction (constant_in_k (items q)))
+      | Some q ↦ gives (fraction_of_whole (constant_in_k (items q)))
       | None ↦ find_node_constant at node
     ]).outcome ≡ Ok (Some f)
     → ((find_node_constant at node).outcome ≡ Ok (Some f) → IsConstant f (node_value node)) → IsConstant f (node_value node)
 constant_or at node None f is e h = h e
 constant_or at node (Some q) f is e h =
-    whole_given q (constant_in_k (items q)) f (same_Ok (whole_fraction (constant_in_k (items q))) (Some f) e) refl (node_value node)
+    whole_given q (constant_in_k (items q)) f (same_Ok (fraction_of_whole (constant_in_k (items q))) (Some f) e) refl (node_value node)
     (node_has node q is)

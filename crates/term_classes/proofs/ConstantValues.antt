@@ -17,7 +17,7 @@ use Rattle.hypergeometric.proofs.SameValues.{same}
 use Rattle.grammar.specs.Tree.{Tree, tree, Node, literal, variable_n, variable_k, sum_of, product_of, power_of, factorial_of, binomial_of, Parts, no_parts, part}
 use Rattle.term_classes.specs.TreePolynomial.{constant_of}
 use Rattle.term_classes.specs.TreeValue.{tree_value, node_value, product_value, at_whole, defined_power}
-use Rattle.term_classes.specs.Finding.{FractionFactor, divides_by_zero, product_of_fractions, product_made, power_made, whole_fraction, negative_of, find_polynomial, find_node_polynomial, find_constant, find_node_constant, find_constants}
+use Rattle.term_classes.specs.Finding.{FractionFactor, divides_by_zero, product_of_fractions, product_made, power_made, fraction_of_whole, negative_of, find_polynomial, find_node_polynomial, find_constant, find_node_constant, find_constants}
 use Rattle.term_classes.proofs.PolynomialParts.{power_value}
 use Rattle.term_classes.proofs.FindingPolynomials.{finding_is, find_node_is}
 use Rattle.term_classes.proofs.ConstantPowers.{IsConstant, negated_constant}
@@ -27,7 +27,7 @@ mutual
   pub constant_has : (t : Tree) (f : Fraction) → (find_constant t).outcome ≡ Ok (Some f) → IsConstant f (tree_value t)
   constant_has (tree at node) f e =
       let g = then_gave (find_node_polynomial at node) (λ given. elim given as (λ _. TermSteps (Option Fraction)) [
-        | Some q ↦ gives (whole_fraction (constant_in_k (items q)))
+        | Some q ↦ gives (fraction_of_whole (constant_in_k (items q)))
         | None ↦ find_node_constant at node
       ]) (Some f) e in
       constant_or at node g.value f (find_node_is at node g.value g.first) g.second (node_constant_has at node f)

@@ -23,7 +23,7 @@ use Rattle.hypergeometric.proofs.LowestTerms.{divisor_of, has_negative_bottom, n
 use Rattle.hypergeometric.proofs.ReducedFractions.{HasLowestTerms, lowest_has_terms}
 use Rattle.grammar.specs.Tree.{Tree, tree, Node, literal, variable_n, variable_k, sum_of, product_of, power_of, factorial_of, binomial_of, no_parts, part}
 use Rattle.term_classes.specs.TreePolynomial.{constant_of}
-use Rattle.term_classes.specs.Finding.{FractionFactor, divides_by_zero, product_of_fractions, product_made, power_made, whole_fraction, negative_of, top_sizes, bottom_sizes, find_polynomial, find_node_polynomial, find_constant, find_node_constant, find_constants}
+use Rattle.term_classes.specs.Finding.{FractionFactor, divides_by_zero, product_of_fractions, product_made, power_made, fraction_of_whole, negative_of, top_sizes, bottom_sizes, find_polynomial, find_node_polynomial, find_constant, find_node_constant, find_constants}
 use Rattle.term_classes.proofs.ConstantValues.{constant_has}
 use Rattle.term_classes.proofs.ConstantPowers.{unless_given}
 
@@ -83,7 +83,7 @@ exponent_lowered at base (Some c) f e =
     let b = then_gave (find_constant base) (λ f. where_some f (power_made at c)) (Some f) g.second in
     some_power_lowered at c b.value f b.second
 
-whole_given_terms : (c : Option ℤ) (f : Fraction) → whole_fraction c ≡ Some f → HasLowestTerms f
+whole_given_terms : (c : Option ℤ) (f : Fraction) → fraction_of_whole c ≡ Some f → HasLowestTerms f
 whole_given_terms None f e = absurd (none-some f e)
 whole_given_terms (Some z) f e = subst HasLowestTerms (same_Some (of_whole z) f e) (whole_terms z)
 
@@ -93,19 +93,19 @@ negated_terms (Some g) f e h = subst HasLowestTerms (same_Some (fraction_negativ
 
 polynomial_or : (at : ℕ) (node : Node) (p : Option Meaning) (f : Fraction)
     → (elim p as (λ _. TermSteps (Option Fraction)) [
-      | Some q ↦ gives (whole_fraction (constant_in_k (items q)))
+      | Some q ↦ gives (fraction_of_whole (constant_in_k (items q)))
       | None ↦ find_node_constant at node
     ]).outcome ≡ Ok (Some f)
     → ((find_node_constant at node).outcome ≡ Ok (Some f) → HasLowestTerms f) → HasLowestTerms f
 polynomial_or at node None f e h = h e
-polynomial_or at node (Some q) f e h = whole_given_terms (constant_in_k (items q)) f (same_Ok (whole_fraction (constant_in_k (items q))) (Some f) e)
+polynomial_or at node (Some q) f e h = whole_given_terms (constant_in_k (items q)) f (same_Ok (fraction_of_whole (constant_in_k (items q))) (Some f) e)
 
 mutual
   -- the constant of a tree is in lowest terms
   pub constant_terms : (t : Tree) (f : Fraction) → (find_constant t).outcome ≡ Ok (Some f) → HasLowestTerms f
   constant_terms (tree at node) f e =
       let g = then_gave (find_node_polynomial at node) (λ p. elim p as (λ _. TermSteps (Option Fraction)) [
-        | Some q ↦ gives (whole_fraction (constant_in_k (items q)))
+        | Some q ↦ gives (fraction_of_whole (constant_in_k (items q)))
         | None ↦ find_node_constant at node
       ]) (Some f) e in
       polynomial_or at node g.value f g.second (node_terms at node f (constant_has (tree at node) f e).defined)

@@ -117,9 +117,9 @@ power_made at (pos e) f =
     makes at (of_fraction (size_of_top (raised_fraction f (pos e))) (size_of_bottom (raised_fraction f (pos e))))
     (Some (lowest_terms (raised_fraction f (pos e))))
 
-abbrev pub whole_fraction : Option ℤ → Option Fraction
-whole_fraction None = None
-whole_fraction (Some z) = Some (of_whole z)
+abbrev pub fraction_of_whole : Option ℤ → Option Fraction
+fraction_of_whole None = None
+fraction_of_whole (Some z) = Some (of_whole z)
 
 abbrev pub negative_of : Option Fraction → Option Fraction
 negative_of None = None
@@ -129,7 +129,7 @@ negative_of (Some f) = Some (fraction_negative f)
 abbrev mutual
   pub find_constant : Tree → TermSteps (Option Fraction)
   find_constant (tree at node) = find_node_polynomial at node then (λ p. elim p as (λ _. TermSteps (Option Fraction)) [
-    | Some q ↦ gives (whole_fraction (constant_in_k (items q)))
+    | Some q ↦ gives (fraction_of_whole (constant_in_k (items q)))
     | None ↦ find_node_constant at node
   ])
 

@@ -16,28 +16,28 @@ use Rattle.term_text.specs.declared.ast.Node.TheVariants.{Pow, Factorial, Binomi
 use Rattle.term_text.proofs.Views.{node_of-pow, node_of-factorial, node_of-binomial}
 use Rattle.term_walk.specs.declared.gathered.Gathered.{Gathered}
 use Rattle.term_walk.specs.Views.{gathered_of}
-use Rattle.term_walk.specs.WalkRows.{ExponentKind, find_exponent, exponential_left, power_left}
+use Rattle.term_walk.specs.WalkRows.{ExponentKind, find_exponent_kind, exponential_left, power_left}
 use Rattle.term_walk.proofs.NodeRows.{at_node}
 use Rattle.term_walk.proofs.ExponentKinds.{power_row}
 
 -- a power, from what its exponent is
 pub pow_refused : (a base e e' : Ast) (w : ℤ) (f : ProperTerm) (x : TermFault) → a.node ≡ Pow base e → e' ≡ e
-    → HasCause (find_exponent (tree_of e') w) (term_cause x) → HasCause (walk (tree_of a) w f) (term_cause x)
+    → HasCause (find_exponent_kind (tree_of e') w) (term_cause x) → HasCause (walk (tree_of a) w f) (term_cause x)
 pow_refused a base e e' w f x is same h =
     at_node a (Pow base e) (d.power_of (tree_of base) (tree_of e)) w f (Err x) is (node_of-pow base e)
     (subst (λ s. HasCause s (term_cause x)) (power_row a.at (tree_of base) (tree_of e) w f)
-    (first_cause (find_exponent (tree_of e) w) (power_left a.at (tree_of base) (tree_of e) w f) (term_cause x)
-    (subst (λ e. HasCause (find_exponent (tree_of e) w) (term_cause x)) same h)))
+    (first_cause (find_exponent_kind (tree_of e) w) (power_left a.at (tree_of base) (tree_of e) w f) (term_cause x)
+    (subst (λ e. HasCause (find_exponent_kind (tree_of e) w) (term_cause x)) same h)))
 
 pub pow_answer : (a base e e' : Ast) (w : ℤ) (f : ProperTerm) (kind : ExponentKind) (result : Result Gathered TermFault) → a.node ≡ Pow base e
-    → e' ≡ e → (find_exponent (tree_of e') w).outcome ≡ Ok kind
+    → e' ≡ e → (find_exponent_kind (tree_of e') w).outcome ≡ Ok kind
     → Answers term_cause gathered_of (power_left a.at (tree_of base) (tree_of e) w f kind) result
     → Answers term_cause gathered_of (walk (tree_of a) w f) result
 pow_answer a base e e' w f kind result is same told known =
     at_node a (Pow base e) (d.power_of (tree_of base) (tree_of e)) w f result is (node_of-pow base e)
     (subst (λ s. Answers term_cause gathered_of s result) (power_row a.at (tree_of base) (tree_of e) w f)
-    (leads_answer term_cause gathered_of result (leads (find_exponent (tree_of e) w) (power_left a.at (tree_of base) (tree_of e) w f) kind
-    (subst (λ e. (find_exponent (tree_of e) w).outcome ≡ Ok kind) same told)) known))
+    (leads_answer term_cause gathered_of result (leads (find_exponent_kind (tree_of e) w) (power_left a.at (tree_of base) (tree_of e) w f) kind
+    (subst (λ e. (find_exponent_kind (tree_of e) w).outcome ≡ Ok kind) same told)) known))
 
 -- the same base and exponent
 pub same_trees : (at : ℕ) (b b' e e' : Ast) (form : Option LinearForm) (w : ℤ) (f : ProperTerm) (result : Result Gathered TermFault) → b ≡ b' → e ≡ e'

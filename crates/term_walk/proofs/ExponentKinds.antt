@@ -14,7 +14,7 @@ use Rattle.term_classes.specs.TreePolynomial.{constant_of}
 use Rattle.term_classes.specs.Forms.{linear_form_of}
 use Rattle.term_classes.specs.Finding.{find_polynomial}
 use Rattle.term_classes.specs.Walk.{walk, walk_node}
-use Rattle.term_walk.specs.WalkRows.{ExponentKind, zero_exponent, constant, varying, constant_kind, exponent_told, find_exponent, exponential_left, power_left}
+use Rattle.term_walk.specs.WalkRows.{ExponentKind, zero_exponent, constant, varying, constant_kind, exponent_told, find_exponent_kind, exponential_left, power_left}
 
 told_row : (at : ℕ) (base e : Tree) (p : Option Meaning) (w : ℤ) (f : ProperTerm) (c : Option ℤ)
     → ((elim c as (λ _. TermSteps ExponentKind) [
@@ -43,7 +43,7 @@ told_row at base e p w f (Some c) = by (nat_le (unsigned_abs (w *ℤ c)) (greate
 
 -- the exponent is told first, and decides what follows
 pub power_row : (at : ℕ) (base e : Tree) (w : ℤ) (f : ProperTerm)
-    → (find_exponent e w then (power_left at base e w f)) ≡ walk_node at (power_of base e) w f
+    → (find_exponent_kind e w then (power_left at base e w f)) ≡ walk_node at (power_of base e) w f
 power_row at base e w f =
     then_assoc (find_polynomial e) (exponent_told w) (power_left at base e w f)
     ∙ λ i. find_polynomial e then (λ p. told_row at base e p w f (constant_of p) i)

@@ -2,7 +2,7 @@
 -- A lemma: it stands here, and not in proofs/, since a ghost field names it.
 use Rattle.std.proofs.Props.{props}
 use Rattle.poly_fraction.specs.Fractions.{RingFraction}
-use Rattle.poly_fraction.specs.LowestTerms.{IsLowest}
+use Rattle.poly_fraction.specs.LowestTerms.{IsInLowestTerms}
 
-pub lowest_once : (f : RingFraction) → IsProp (IsLowest f)
+pub lowest_once : (f : RingFraction) → IsProp (IsInLowestTerms f)
 lowest_once f = Prim.hlevel props

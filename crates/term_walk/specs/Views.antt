@@ -8,7 +8,7 @@ use Rattle.hypergeometric.specs.Forms.{form_with}
 use Rattle.lin_form.specs.ListOf.{list_of}
 use Rattle.lin_form.proofs.Items.{each_of}
 use Rattle.term_classes.specs.Walk.{with_lists}
-use Rattle.proper_term.specs.Fields.{whole_fraction}
+use Rattle.proper_term.specs.Fields.{number_fraction_of}
 use Rattle.term_walk.specs.declared.factors.Factors.{Factors}
 use Rattle.term_walk.specs.declared.gathered.Gathered.{Gathered}
 use Rattle.term_walk.specs.declared.wide_forms.WideForm.{WideForm}
@@ -24,9 +24,9 @@ with_factors f factors = with_lists (list_of factors.up).factors (list_of factor
 abbrev pub gathered_of : Gathered → ProperTerm
 gathered_of g = record {
   poly = listed (each_of g.poly.list.items (λ coefficient. listed (each_of coefficient.list.items (λ whole. number whole.value))));
-  scale = whole_fraction (fraction_of g.scale);
-  n_base = whole_fraction (fraction_of g.n_base);
-  k_base = whole_fraction (fraction_of g.k_base);
+  scale = number_fraction_of (fraction_of g.scale);
+  n_base = number_fraction_of (fraction_of g.n_base);
+  k_base = number_fraction_of (fraction_of g.k_base);
   up = (list_of g.factors.up).factors;
   down = (list_of g.factors.down).factors;
   over = (list_of g.factors.over).factors;

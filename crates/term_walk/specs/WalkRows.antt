@@ -40,8 +40,8 @@ exponent_told power p = elim (constant_of p) as (λ _. TermSteps ExponentKind) [
   | None ↦ gives (varying (linear_form_of p))
 ]
 
-abbrev pub find_exponent : Tree → ℤ → TermSteps ExponentKind
-find_exponent t power = find_polynomial t then (exponent_told power)
+abbrev pub find_exponent_kind : Tree → ℤ → TermSteps ExponentKind
+find_exponent_kind t power = find_polynomial t then (exponent_told power)
 
 -- exactly one part, which is turned
 abbrev pub is_one_turned : Parts → Bool

@@ -10,7 +10,7 @@ ghost use Rattle.steps.specs.TermFaults.{term_cause};
 ghost use Rattle.term_classes.specs.Walk.{base_or_refused};
 ghost use Rattle.tree_polynomials.specs.Views.{fraction_value, whole_value};
 ghost use Rattle.term_walk.specs.Views.{gathered_of, wide_form_of};
-ghost use Rattle.term_walk.specs.WalkRows.{constant_kind, exponent_of, find_exponent, exponential_left};
+ghost use Rattle.term_walk.specs.WalkRows.{constant_kind, exponent_of, find_exponent_kind, exponential_left};
 
 use crate::arguments::form_of_tree;
 use crate::gathered::Gathered;
@@ -41,7 +41,7 @@ pub(crate) fn kind_of_exponent(
     exponent: &Ast,
     power: WalkPower,
 ) -> Result<Exponent, TermFault>
-    ensures answers { Answers term_cause exponent_of (find_exponent (tree_of exponent.now) power.value) result }
+    ensures answers { Answers term_cause exponent_of (find_exponent_kind (tree_of exponent.now) power.value) result }
 {
     let polynomial = polynomial_of_tree(alloc, exponent)?;
     match number_of(&polynomial) {

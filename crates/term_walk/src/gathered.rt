@@ -3,7 +3,7 @@
 ghost use Rattle.std.specs.Prelude.{◌≡◌, ◌≢◌};
 ghost use Rattle.poly_laws.specs.TwoVariables.{in_n_and_k};
 ghost use Rattle.poly_fraction.specs.FractionOf.{fraction_of};
-ghost use Rattle.poly_fraction.specs.LowestTerms.{IsLowest};
+ghost use Rattle.poly_fraction.specs.LowestTerms.{IsInLowestTerms};
 ghost use Rattle.term_walk.specs.OneProof.{lowest_once};
 
 use crate::factors::Factors;
@@ -27,7 +27,7 @@ pub(crate) struct Gathered {
     pub(crate) k_base: Frac<Whole>,
     pub(crate) factors: Factors,
     ghost not_zero: { ⟦<Znk as Ring>⟧.meaning poly ≢ in_n_and_k.nought },
-    ghost lowest: { IsLowest (fraction_of scale) } by { lowest_once (fraction_of scale) },
+    ghost lowest: { IsInLowestTerms (fraction_of scale) } by { lowest_once (fraction_of scale) },
 }
 
 impl Gathered {

@@ -12,7 +12,7 @@ use Rattle.steps.proofs.AnswerLaws.{later_answer}
 use Rattle.steps.proofs.FindingParts.{Continues, part_first, part_done, part_none, part_fault}
 use Rattle.hypergeometric.specs.Fraction.{Fraction}
 use Rattle.grammar.specs.Tree as d
-use Rattle.term_classes.specs.Finding.{FractionFactor, whole_fraction, negative_of, find_polynomial, find_node_polynomial, find_constant, find_node_constant, find_constants}
+use Rattle.term_classes.specs.Finding.{FractionFactor, fraction_of_whole, negative_of, find_polynomial, find_node_polynomial, find_constant, find_node_constant, find_constants}
 use Rattle.term_text.specs.View.{tree_of, node_of, part_of, parts_of}
 use Rattle.term_text.specs.declared.ast.Ast.{Ast}
 use Rattle.term_text.specs.declared.ast.Part.{Part}
@@ -29,7 +29,7 @@ other_answer view a node s result e same none h =
     let here : tree_of a ≡ d.tree a.at node = tree_of-at a ∙ ap (d.tree a.at) e in
     subst (λ t. Answers term_cause view (find_constant t) result) (sym here)
     (later_answer term_cause view (find_node_polynomial a.at node) (λ p. elim p as (λ _. TermSteps (Option Fraction)) [
-      | Some q ↦ gives (whole_fraction (constant_in_k (items q)))
+      | Some q ↦ gives (fraction_of_whole (constant_in_k (items q)))
       | None ↦ find_node_constant a.at node
     ]) None result (subst (λ t. (find_polynomial t).outcome ≡ Ok None) here none) (subst (λ s. Answers term_cause view s result) (sym same) h))
 

@@ -18,7 +18,7 @@ use Rattle.hypergeometric.specs.Divisors.{nonzero_size, size_of_top, size_of_bot
 use Rattle.hypergeometric.specs.PrimitiveForm.{is_zero}
 use Rattle.hypergeometric.proofs.FractionPowers.{product_assoc, one_product}
 use Rattle.term_classes.specs.Finding.{FractionFactor, divides_by_zero, factor_fraction, product_of_fractions, top_sizes, bottom_sizes}
-use Rattle.proper_term.specs.Fields.{whole_fraction}
+use Rattle.proper_term.specs.Fields.{number_fraction_of}
 use Rattle.tree_polynomials.specs.Factors.{factor_of, factors_of}
 use Rattle.tree_polynomials.specs.declared.factors.Factor.{Factor}
 
@@ -45,8 +45,8 @@ product_size a b =
 
 -- a refused product of two fractions is out of bounds
 pub product_fault : (at : ℕ) (f g : RingFraction) (fault : RingFault) → OnFault (¬ FractionProductInBounds whole_algebra f g) fault
-    → HasCause (makes at (of_fraction (size_of_top (whole_fraction f) * size_of_top (whole_fraction g))
-    (size_of_bottom (whole_fraction f) * size_of_bottom (whole_fraction g))) (fraction_product (whole_fraction f) (whole_fraction g)))
+    → HasCause (makes at (of_fraction (size_of_top (number_fraction_of f) * size_of_top (number_fraction_of g))
+    (size_of_bottom (number_fraction_of f) * size_of_bottom (number_fraction_of g))) (fraction_product (number_fraction_of f) (number_fraction_of g)))
     (term_cause (fault_of at fault))
 product_fault at f g fault h =
     ring_cause (makes at counterpart product) at (¬ FractionProductInBounds whole_algebra f g) fault h
@@ -56,11 +56,11 @@ product_fault at f g fault h =
     })))
   where
     counterpart : Counterpart
-    counterpart = of_fraction (size_of_top (whole_fraction f) * size_of_top (whole_fraction g))
-        (size_of_bottom (whole_fraction f) * size_of_bottom (whole_fraction g))
+    counterpart = of_fraction (size_of_top (number_fraction_of f) * size_of_top (number_fraction_of g))
+        (size_of_bottom (number_fraction_of f) * size_of_bottom (number_fraction_of g))
 
     product : Fraction
-    product = fraction_product (whole_fraction f) (whole_fraction g)
+    product = fraction_product (number_fraction_of f) (number_fraction_of g)
 
 more_size : (a b : ℕ) → 1 ≤ a → 1 ≤ b → 1 ≤ a * b
 more_size a b h k =

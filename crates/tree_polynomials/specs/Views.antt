@@ -6,11 +6,11 @@ use Rattle.poly_fraction.specs.FractionOf.{fraction_of}
 use Rattle.poly_fraction.specs.declared.fractions.Frac.{Frac}
 use Rattle.ring_laws.specs.declared.wholes.Whole.{Whole}
 use Rattle.hypergeometric.specs.Fraction.{Fraction}
-use Rattle.proper_term.specs.Fields.{whole_fraction}
+use Rattle.proper_term.specs.Fields.{number_fraction_of}
 
 abbrev pub whole_value : Whole → ℤ
 whole_value whole = whole.value
 
 -- a fraction of whole numbers as a fraction of numbers
 abbrev pub fraction_value : {domain : DomainGhosts Whole} {ring : RingGhosts Whole} → Frac Whole domain ring → Fraction
-fraction_value f = whole_fraction (fraction_of f)
+fraction_value f = number_fraction_of (fraction_of f)

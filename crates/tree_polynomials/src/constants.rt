@@ -9,7 +9,7 @@ ghost use Rattle.steps.specs.Answers.{Answers};
 ghost use Rattle.steps.specs.Found.{found};
 ghost use Rattle.steps.specs.Steps.{◌then◌};
 ghost use Rattle.steps.specs.TermFaults.{term_cause};
-ghost use Rattle.term_classes.specs.Finding.{find_constant, find_constants, product_made, whole_fraction};
+ghost use Rattle.term_classes.specs.Finding.{find_constant, find_constants, product_made, fraction_of_whole};
 ghost use Rattle.tree_polynomials.specs.ConstantCases.{find_negative, find_power};
 ghost use Rattle.tree_polynomials.specs.Factors.{factors_of};
 ghost use Rattle.tree_polynomials.specs.Views.{fraction_value};
@@ -28,7 +28,7 @@ use term_text::{Ast, Node, Part};
 
 // The constant that a polynomial is, as a fraction.
 fn constant_fraction(polynomial: &Znk) -> Option<Frac<Whole>>
-    ensures constant { found fraction_value result ≡ whole_fraction (constant_in_k (items (⟦<Znk as Ring>⟧.meaning polynomial.now))) }
+    ensures constant { found fraction_value result ≡ fraction_of_whole (constant_in_k (items (⟦<Znk as Ring>⟧.meaning polynomial.now))) }
 {
     match constant_of(polynomial) {
         Some(number) => Some(over(number, Whole::ONE)),

@@ -3,7 +3,7 @@ use Rattle.ring_laws.specs.Answer.{fault_weaker}
 use Rattle.poly_fraction.specs.FractionOf.{fraction_of}
 use Rattle.proper_term.specs.Cancelled.{at_least, greatest, rising, left_over, quotients}
 use Rattle.proper_term.specs.Cursors.{argument_of, numbers_left}
-use Rattle.proper_term.specs.Fields.{whole_fraction}
+use Rattle.proper_term.specs.Fields.{number_fraction_of}
 use Rattle.proper_term.specs.Runs.{GivesRun}
 use Rattle.proper_term.proofs.Faults.{handed_on}
 use Rattle.proper_term.proofs.FactorialRuns.{pair_fault, pair_on, pair_fewer}
@@ -27,7 +27,7 @@ returns-in_err-running c =
     (max (greatest ds) (greatest us) + 1 - c.loop-top.bottom.at))
     (later_none c.loop-top.bottom.left c.loop-top.bottom.at _ c.loop-top.invariant.bottom) in
     record {
-      run = handed_on (GivesRun fraction_of (whole_fraction (fraction_of c.args.running)) (quotients (left_over us ds) (left_over ds us)))
+      run = handed_on (GivesRun fraction_of (number_fraction_of (fraction_of c.args.running)) (quotients (left_over us ds) (left_over ds us)))
           c.from_residual.result c.in_err-running.field-0.0 c.from_residual.ensures.1
           (fault_weaker c.in_err-running.field-0.0 (pair_fault _ _ _ ts bs _ _ some top bottom c.loop-top.invariant.reached) c.in_err-running.ensures.run);
     }

@@ -3,7 +3,7 @@ use Rattle.poly_fraction.specs.FractionOf.{fraction_of}
 use Rattle.hypergeometric.specs.FactorLists.{factor_with}
 use Rattle.lin_form.specs.Forms.{form_of}
 use Rattle.lin_form.specs.ListOf.{list_of}
-use Rattle.proper_term.specs.Fields.{whole_fraction}
+use Rattle.proper_term.specs.Fields.{number_fraction_of}
 use Rattle.proper_term.specs.Points.{point_of}
 use Rattle.proper_term.specs.Runs.{GivesRun}
 use Rattle.proper_term.specs.ValueBounds.{divisors}
@@ -14,7 +14,7 @@ use Rattle.proper_term.proofs.running.over_forms.Goals as goal
 
 pub returns-in_err-running : goal.returns-in_err-running
 returns-in_err-running c = record {
-  run = handed_on (GivesRun fraction_of (whole_fraction (fraction_of c.args.running)) (divisors
+  run = handed_on (GivesRun fraction_of (number_fraction_of (fraction_of c.args.running)) (divisors
       (list_of c.args.over.now).factors (point_of c.args.point)))
       c.from_residual.result c.in_err-running.field-0.0 c.from_residual.ensures.1
       (fault_weaker c.in_err-running.field-0.0

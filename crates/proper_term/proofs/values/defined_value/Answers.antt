@@ -5,7 +5,7 @@ use Rattle.hypergeometric.specs.LinearForm.{Factor, form_value}
 use Rattle.hypergeometric.specs.ProperTerm.{proper_value}
 use Rattle.hypergeometric.proofs.Definedness.{proper_value_defined}
 use Rattle.poly_fraction.specs.FractionOf.{fraction_of}
-use Rattle.proper_term.specs.Fields.{whole_fraction}
+use Rattle.proper_term.specs.Fields.{number_fraction_of}
 use Rattle.proper_term.specs.Points.{point_of}
 use Rattle.proper_term.specs.TermOf.{term_of}
 use Rattle.proper_term.proofs.ListItems.{negative_all}
@@ -17,7 +17,7 @@ use Rattle.proper_term.proofs.values.defined_value.Goals as goal
 pub returns-then-not-none_negative-clause-value : goal.returns-then-not-none_negative-clause-value
 returns-then-not-none_negative-clause-value c =
     let f = term_of c.args.term.now in
-    zero_equal (whole_fraction (fraction_of c.zero.result)) (proper_value f (point_of c.args.point)) c.zero.ensures.top c.zero.ensures.bottom
+    zero_equal (number_fraction_of (fraction_of c.zero.result)) (proper_value f (point_of c.args.point)) c.zero.ensures.top c.zero.ensures.bottom
     (proper_value_defined f (point_of c.args.point) (proper_fractions f c.args.term.now.proper) c.requires.defined)
     (zero_down f (point_of c.args.point) c.args.term.now.proper.down.each
     (λ h. true≢false (sym (c.if-not-none_negative.ensures.test.1 (subst
@@ -25,7 +25,7 @@ returns-then-not-none_negative-clause-value c =
     ((negative_all f.down (point_of c.args.point)).0 h))))))
 
 pub returns-then-not-none_negative-clause-lowest : goal.returns-then-not-none_negative-clause-lowest
-returns-then-not-none_negative-clause-lowest c = zero_lowest (whole_fraction (fraction_of c.zero.result)) c.zero.ensures.top c.zero.ensures.bottom
+returns-then-not-none_negative-clause-lowest c = zero_lowest (number_fraction_of (fraction_of c.zero.result)) c.zero.ensures.top c.zero.ensures.bottom
 
 pub product_value-requires-clause-down : goal.product_value-requires-clause-down
 product_value-requires-clause-down c =

@@ -7,7 +7,7 @@ use Rattle.hypergeometric.specs.Fraction.{of_whole}
 use Rattle.hypergeometric.specs.ProperTerm.{poly_value, proper_value}
 use Rattle.hypergeometric.proofs.Definedness.{proper_value_defined}
 use Rattle.poly_fraction.specs.FractionOf.{fraction_of}
-use Rattle.proper_term.specs.Fields.{whole_fraction}
+use Rattle.proper_term.specs.Fields.{number_fraction_of}
 use Rattle.proper_term.specs.Points.{point_of}
 use Rattle.proper_term.specs.Runs.{GivesRun}
 use Rattle.proper_term.specs.TermOf.{term_of}
@@ -28,18 +28,18 @@ returns-in_err-running-clause-too_large c =
 pub returns-then-value-eq0-clause-value : goal.returns-then-value-eq0-clause-value
 returns-then-value-eq0-clause-value c =
     let f = term_of c.args.term.now in
-    zero_equal (whole_fraction (fraction_of c.zero.result)) (proper_value f (point_of c.args.point)) c.zero.ensures.top c.zero.ensures.bottom
+    zero_equal (number_fraction_of (fraction_of c.zero.result)) (proper_value f (point_of c.args.point)) c.zero.ensures.top c.zero.ensures.bottom
     (proper_value_defined f (point_of c.args.point) (proper_fractions f c.args.term.now.proper) c.requires.defined)
     (zero_poly f (point_of c.args.point) (sym c.in_ok-poly.ensures.value ∙ omega (arith, ints)))
 
 pub returns-then-value-eq0-clause-lowest : goal.returns-then-value-eq0-clause-lowest
-returns-then-value-eq0-clause-lowest c = zero_lowest (whole_fraction (fraction_of c.zero.result)) c.zero.ensures.top c.zero.ensures.bottom
+returns-then-value-eq0-clause-lowest c = zero_lowest (number_fraction_of (fraction_of c.zero.result)) c.zero.ensures.top c.zero.ensures.bottom
 
 -- the quotient of the factorials isn't 0
 pub times_factors-requires-clause-running : goal.times_factors-requires-clause-running
 times_factors-requires-clause-running c =
     let f = term_of c.args.term.now in
-    factorials_top f (point_of c.args.point) (whole_fraction (fraction_of c.in_ok-running.running))
+    factorials_top f (point_of c.args.point) (number_fraction_of (fraction_of c.in_ok-running.running))
     (lowest_nonzero f.scale c.args.term.now.proper.scale) c.in_ok-running.ensures.run
 
 -- the run over all factors
@@ -47,12 +47,12 @@ pub returns-clause-value : goal.returns-clause-value
 returns-clause-value c =
     let f = term_of c.args.term.now in
     let p = point_of c.args.point in
-    let rest : GivesRun fraction_of (whole_fraction (fraction_of c.in_ok-running.running))
+    let rest : GivesRun fraction_of (number_fraction_of (fraction_of c.in_ok-running.running))
     (of_whole (poly_value f.poly p) ∷ base_power f.n_base p.n ∷ base_power f.k_base p.k ∷ divisors f.over p) c.times_factors.result =
-    subst (λ (z : ℤ). GivesRun fraction_of (whole_fraction (fraction_of c.in_ok-running.running))
+    subst (λ (z : ℤ). GivesRun fraction_of (number_fraction_of (fraction_of c.in_ok-running.running))
     (of_whole z ∷ base_power f.n_base p.n ∷ base_power f.k_base p.k ∷ divisors f.over p) c.times_factors.result) c.in_ok-poly.ensures.value
     c.times_factors.ensures.run in
-    let run = run_then fraction_of f.scale (factorial_factors f p) (whole_fraction (fraction_of c.in_ok-running.running))
+    let run = run_then fraction_of f.scale (factorial_factors f p) (number_fraction_of (fraction_of c.in_ok-running.running))
     (of_whole (poly_value f.poly p) ∷ base_power f.n_base p.n ∷ base_power f.k_base p.k ∷ divisors f.over p) c.times_factors.result
     c.in_ok-running.ensures.run rest in
     value_of_run fraction_of f p c.args.term.now.proper c.times_factors.result c.requires.defined c.requires.down run
@@ -61,12 +61,12 @@ pub returns-clause-lowest : goal.returns-clause-lowest
 returns-clause-lowest c =
     let f = term_of c.args.term.now in
     let p = point_of c.args.point in
-    let rest : GivesRun fraction_of (whole_fraction (fraction_of c.in_ok-running.running))
+    let rest : GivesRun fraction_of (number_fraction_of (fraction_of c.in_ok-running.running))
     (of_whole (poly_value f.poly p) ∷ base_power f.n_base p.n ∷ base_power f.k_base p.k ∷ divisors f.over p) c.times_factors.result =
-    subst (λ (z : ℤ). GivesRun fraction_of (whole_fraction (fraction_of c.in_ok-running.running))
+    subst (λ (z : ℤ). GivesRun fraction_of (number_fraction_of (fraction_of c.in_ok-running.running))
     (of_whole z ∷ base_power f.n_base p.n ∷ base_power f.k_base p.k ∷ divisors f.over p) c.times_factors.result) c.in_ok-poly.ensures.value
     c.times_factors.ensures.run in
-    let run = run_then fraction_of f.scale (factorial_factors f p) (whole_fraction (fraction_of c.in_ok-running.running))
+    let run = run_then fraction_of f.scale (factorial_factors f p) (number_fraction_of (fraction_of c.in_ok-running.running))
     (of_whole (poly_value f.poly p) ∷ base_power f.n_base p.n ∷ base_power f.k_base p.k ∷ divisors f.over p) c.times_factors.result
     c.in_ok-running.ensures.run rest in
     lowest_of_run fraction_of f p c.args.term.now.proper c.times_factors.result run
@@ -75,12 +75,12 @@ pub returns-clause-too_large : goal.returns-clause-too_large
 returns-clause-too_large c =
     let f = term_of c.args.term.now in
     let p = point_of c.args.point in
-    let rest : GivesRun fraction_of (whole_fraction (fraction_of c.in_ok-running.running))
+    let rest : GivesRun fraction_of (number_fraction_of (fraction_of c.in_ok-running.running))
     (of_whole (poly_value f.poly p) ∷ base_power f.n_base p.n ∷ base_power f.k_base p.k ∷ divisors f.over p) c.times_factors.result =
-    subst (λ (z : ℤ). GivesRun fraction_of (whole_fraction (fraction_of c.in_ok-running.running))
+    subst (λ (z : ℤ). GivesRun fraction_of (number_fraction_of (fraction_of c.in_ok-running.running))
     (of_whole z ∷ base_power f.n_base p.n ∷ base_power f.k_base p.k ∷ divisors f.over p) c.times_factors.result) c.in_ok-poly.ensures.value
     c.times_factors.ensures.run in
-    let run = run_then fraction_of f.scale (factorial_factors f p) (whole_fraction (fraction_of c.in_ok-running.running))
+    let run = run_then fraction_of f.scale (factorial_factors f p) (number_fraction_of (fraction_of c.in_ok-running.running))
     (of_whole (poly_value f.poly p) ∷ base_power f.n_base p.n ∷ base_power f.k_base p.k ∷ divisors f.over p) c.times_factors.result
     c.in_ok-running.ensures.run rest in
     fault_of_run fraction_of f p c.args.term.now.proper c.times_factors.result run

@@ -3,7 +3,7 @@ use Rattle.std.proofs.lemmas.Int.{to_z-of_z}
 use Rattle.std.specs.Int.{w64}
 use Rattle.hypergeometric.specs.Fraction.{Fraction}
 use Rattle.poly_fraction.specs.FractionOf.{fraction_of}
-use Rattle.proper_term.specs.Fields.{whole_fraction}
+use Rattle.proper_term.specs.Fields.{number_fraction_of}
 use Rattle.proper_term.specs.Runs.{GivesRun}
 use Rattle.proper_term.specs.ValueBounds.{base_power}
 use Rattle.proper_term.proofs.values.times_k_power.Goals as goal
@@ -12,6 +12,6 @@ use Rattle.proper_term.proofs.values.times_k_power.Goals as goal
 pub returns : goal.returns
 returns c =
     let fits : FitsSigned w64 c.args.point.k = search rules in record {
-      run = subst (λ (x : Fraction). GivesRun fraction_of (whole_fraction (fraction_of c.args.running.now)) (x ∷ []) c.times_power.result)
+      run = subst (λ (x : Fraction). GivesRun fraction_of (number_fraction_of (fraction_of c.args.running.now)) (x ∷ []) c.times_power.result)
           (λ i. base_power (c.k_base.ensures.k_base i) (to_z-of_z w64 c.args.point.k fits i)) c.times_power.ensures.run;
     }
