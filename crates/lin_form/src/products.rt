@@ -11,24 +11,15 @@ use poly_generic::{Zn, Znk};
 use ring_laws::{Ring, RingFault, Whole};
 use std::alloc::Global;
 
-// The number as a `Whole`.
-fn whole(value: i64) -> Whole
-    ensures value { result.value ≡ value }
-{
-    Whole {
-        value: i128::from(value),
-    }
-}
-
 // The form as a polynomial in k over those in n.
 pub fn polynomial_of(alloc: Global, form: LinForm) -> Result<Znk, RingFault>
     ensures gives { Gives ⟦<Znk as Ring>⟧.meaning (form_polynomial (form_of form)) result }
 {
     let mut numbers = Vec::new(alloc);
-    numbers.push(whole(form.offset()))?;
-    numbers.push(whole(form.n_slope()))?;
+    numbers.push(Whole::from(form.offset()))?;
+    numbers.push(Whole::from(form.n_slope()))?;
     let mut coefficients = Vec::new(alloc);
     coefficients.push(Zn::from_coefficients(numbers)?)?;
-    coefficients.push(Zn::whole(alloc, whole(form.k_slope()))?)?;
+    coefficients.push(Zn::whole(alloc, Whole::from(form.k_slope()))?)?;
     Znk::from_coefficients(coefficients)
 }

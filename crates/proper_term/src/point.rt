@@ -29,18 +29,14 @@ impl Point {
     pub(crate) fn whole_n(self) -> Whole
         ensures value { result.value ≡ self.n }
     {
-        Whole {
-            value: i128::from(self.n),
-        }
+        Whole::from(self.n)
     }
 
     /// k as a `Whole`.
     pub(crate) fn whole_k(self) -> Whole
         ensures value { result.value ≡ self.k }
     {
-        Whole {
-            value: i128::from(self.k),
-        }
+        Whole::from(self.k)
     }
 
     /// The value of the form at the point.

@@ -83,7 +83,7 @@ fn exponent_within_limit(power: i64, constant: Whole) -> Result<i64, TermFault>
     ensures answers { Answers term_cause (λ c. c) (within_limit LimitName.Exponent (unsigned_abs (power *ℤ constant.value)) constant.value) result }
 {
     let counted = capped_magnitude(constant).saturating_mul(power.unsigned_abs());
-    if counted > 12 {
+    if counted > LimitName::Exponent.greatest_count() {
         return Err(TermFault::Limit {
             name: LimitName::Exponent,
             counted,

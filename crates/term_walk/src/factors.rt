@@ -96,10 +96,11 @@ impl Factors {
         ensures answers { (f : ProperTerm) → Answers term_cause (with_factors f) (few_factors (with_lists
             (list_of up).factors (list_of down).factors (list_of over).factors f.guard f)) result }
     {
-        if count > 24 {
+        let counted = u64::from(count);
+        if counted > LimitName::Factors.greatest_count() {
             return Err(TermFault::Limit {
                 name: LimitName::Factors,
-                counted: u64::from(count),
+                counted,
             });
         }
         Ok(Factors {

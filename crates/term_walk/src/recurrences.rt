@@ -15,9 +15,6 @@ use steps::{LimitName, TermFault, fault_at};
 use term_text::Ast;
 use tree_polynomials::{free_of_k, polynomial_of_tree};
 
-// The greatest order of a recurrence.
-const MAX_ORDER: usize = 6;
-
 // The coefficient of a polynomial at the power 0 of k.
 fn constant_term(alloc: Global, polynomial: &Znk) -> Result<Zn, RingFault>
     ensures gives { Gives ⟦<Zn as Ring>⟧.meaning (in_n_alone (items (⟦<Znk as Ring>⟧.meaning polynomial.now))) result }
@@ -84,10 +81,11 @@ pub fn polynomials(alloc: Global, trees: &[Ast]) -> Result<Vec<Zn>, TermFault>
     ensures answers { Answers term_cause (λ list. map ⟦<Zn as Ring>⟧.meaning list.items) (find_recurrence (map tree_of trees.now)) result }
 {
     let order = trees.len() - 1;
-    if order > MAX_ORDER {
+    let counted = order as u64;
+    if counted > LimitName::Order.greatest_count() {
         return Err(TermFault::Limit {
             name: LimitName::Order,
-            counted: order as u64,
+            counted,
         });
     }
     let coefficients = coefficients_of_trees(alloc, trees)?;
