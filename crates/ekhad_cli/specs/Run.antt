@@ -55,19 +55,19 @@ TakesTooMany words held left = (command : Command) × AreWordsOf command words
 -- What is claimed of a run as a whole, of any kind of source (its bytes still to come, its faults), of sink for the output and of sink for
 -- the lines (their bytes, their faults): of its words, its status, and each of the three before it and after it. `run` has each part as a
 -- clause.
-pub record IsRun {S O E : Type 0} (left : S → Option (List ℕ)) (read_faults : S → ℕ) (written : O → Option (List ℕ)) (write_faults : O → ℕ)
-    (said : E → Option (List ℕ)) (say_faults : E → ℕ) (words : List (List ℕ)) (status : Status) (input later_input : S) (out later_out : O)
+pub record IsRun {S O E : Type 0} (left : S → Option (List ℕ)) (read_faults : S → ℕ) (bytes_out : O → Option (List ℕ)) (write_faults : O → ℕ)
+    (bytes_err : E → Option (List ℕ)) (say_faults : E → ℕ) (words : List (List ℕ)) (status : Status) (input later_input : S) (out later_out : O)
     (err later_err : E) : Type 0 where
   pub written : IsAnswered status → (command : Command) × (bytes : List ℕ) × AreWordsOf command words × AreHeld (left input) bytes
-      × GrewByOutput command bytes status (written out) (written later_out)
+      × GrewByOutput command bytes status (bytes_out out) (bytes_out later_out)
   pub no_line : IsAnswered status → later_err ≡ err
   pub end : HasReadAll status → IsAtEnd (left later_input)
   pub quiet : ¬ IsAnswered status → status ≢ WriteFault → later_out ≡ out
   pub front : status ≡ WriteFault → (command : Command) × (bytes : List ℕ) × AreWordsOf command words × AreHeld (left input) bytes
-      × GrewByFront command bytes (written out) (written later_out)
+      × GrewByFront command bytes (bytes_out out) (bytes_out later_out)
   pub line : ¬ IsAnswered status → (refusal : Refusal) × (status ≡ status_of refusal) × IsCaused words (left input) refusal
       × (ComesLate refusal → IsAtEnd (left later_input))
-      × GrewByLine (said err) (said later_err) (line_text refusal) (Rose (say_faults err) (say_faults later_err))
+      × GrewByLine (bytes_err err) (bytes_err later_err) (line_text refusal) (Rose (say_faults err) (say_faults later_err))
   pub usage : status ≡ Status.Usage ↔ ((command : Command) → ¬ AreWordsOf command words)
   pub unread : status ≡ Status.Usage → later_input ≡ input
   pub limit_taken : status ≡ Limit → TakesTooMany words (left input) (left later_input)
@@ -75,9 +75,9 @@ pub record IsRun {S O E : Type 0} (left : S → Option (List ℕ)) (read_faults 
   pub write_fault : status ≡ WriteFault → Rose (write_faults out) (write_faults later_out)
 
 -- Memory was refused before there were words: nothing was read or written, and the line says so.
-pub record HasNoWords {S O E : Type 0} (said : E → Option (List ℕ)) (say_faults : E → ℕ) (status : Status) (input later_input : S)
+pub record HasNoWords {S O E : Type 0} (bytes_err : E → Option (List ℕ)) (say_faults : E → ℕ) (status : Status) (input later_input : S)
     (out later_out : O) (err later_err : E) : Type 0 where
   pub memory : status ≡ Status.Memory
   pub unread : later_input ≡ input
   pub quiet : later_out ≡ out
-  pub line : GrewByLine (said err) (said later_err) (line_text Refusal.Memory) (Rose (say_faults err) (say_faults later_err))
+  pub line : GrewByLine (bytes_err err) (bytes_err later_err) (line_text Refusal.Memory) (Rose (say_faults err) (say_faults later_err))
