@@ -30,13 +30,15 @@ difference d = (level 1).ops.sum (next_y d) ((level 1).ops.neg d.y)
 abbrev pub multiple : Contents → Meaning
 multiple d = (level 1).ops.product ((level 1).ops.whole d.multiplier) d.poly
 
--- the three tests
+-- the first test: the carrier has the scale of the term
 abbrev pub HasCarrier : Contents → Type 0
 HasCarrier d = d.scale ≡ d.carrier_scale
 
+-- the second test: the multiplier isn't 0
 abbrev pub HasMultiplier : Contents → Type 0
 HasMultiplier d = d.multiplier ≢ pos 0
 
+-- the third test: Y(k + 1) - Y(k) is the multiplier times the polynomial of the term
 abbrev pub HasEquation : Contents → Type 0
 HasEquation d = difference d ≡ multiple d
 
@@ -78,6 +80,7 @@ abbrev pub IsVerdictOf : Contents → Verdict → Type 0
 IsVerdictOf d (Accepted unchecked) = HasCarrier d × HasMultiplier d × HasEquation d × (unchecked.items ≡ [])
 IsVerdictOf d (Rejected claim reason) = (claim ≡ 0) × IsFirstFailed d reason
 
+-- the verdict accepts the document
 abbrev pub IsAccepted : Verdict → Type 0
 IsAccepted (Accepted unchecked) = Unit {0}
 IsAccepted (Rejected claim reason) = ⊥

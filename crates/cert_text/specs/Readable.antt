@@ -14,10 +14,12 @@ pub record Contents : Type 0 where
   pub carrier_scale : ℤ
   pub y : Meaning
 
+-- the contents with this polynomial, scale, multiplier, scale of the carrier and Y
 abbrev pub contents : Meaning → ℤ → ℤ → ℤ → Meaning → Contents
 contents poly scale multiplier carrier_scale y =
     record { poly = poly; scale = scale; multiplier = multiplier; carrier_scale = carrier_scale; y = y }
 
+-- the document of a polynomial in k that has these contents
 abbrev pub document_of : Contents → Document
 document_of d = polynomial_document d.poly d.scale d.multiplier d.carrier_scale d.y
 

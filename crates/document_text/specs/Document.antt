@@ -17,6 +17,7 @@ pub record Found : Type 0 where
   pub claim : Claim
   pub range : Option (LinearForm × LinearForm)
 
+-- a term, and the claim that was found for it
 pub record Document : Type 0 where
   pub term : ProperTerm
   pub found : Found
@@ -25,13 +26,16 @@ pub record Document : Type 0 where
 abbrev pub line : List ℕ → List ℕ → List ℕ
 line word rest = word ⧺ rest ⧺ 10 ∷ []
 
+-- `form by shift`, and ` x` and the power where it isn't 1
 abbrev pub match_text : Match → List ℕ
 match_text m = form_text m.form ⧺ codes " by " ⧺ decimal m.shift ⧺ times_text m.power
 
+-- `low to high` for the two ends of a range, and `-` where there is none
 abbrev pub range_text : Option (LinearForm × LinearForm) → List ℕ
 range_text None = codes "-"
 range_text (Some ends) = form_text ends.0 ⧺ codes " to " ⧺ form_text ends.1
 
+-- the lines of a found claim: order, matches, q, r, multipliers, K, Y, D, top and bottom of the ratio, range
 abbrev pub found_text : Found → List ℕ
 found_text f = line (codes "found ") (decimal f.order)
     ⧺ line (codes "match ") (items_text (map match_text f.matches))
@@ -45,6 +49,7 @@ found_text f = line (codes "found ") (decimal f.order)
     ⧺ line (codes "Rbot ") (factor_list_text f.claim.ratio_bottom)
     ⧺ line (codes "range ") (range_text f.range)
 
+-- the text of a document: the heading, the command, the term, the lines of the found claim, and the end
 unfoldable pub document_text : Document → List ℕ
 document_text d = line (codes "ekhad 1") [] ⧺ line (codes "command gosper") [] ⧺ line (codes "term ") (proper_term_text d.term)
     ⧺ found_text d.found ⧺ line (codes "end") []

@@ -54,6 +54,7 @@ starred [] ys = ys
 starred (x ∷ xs) [] = x ∷ xs
 starred (x ∷ xs) (y ∷ ys) = (x ∷ xs) ⧺ byte "*" ∷ y ∷ ys
 
+-- the powers of n and k in a monomial, n first
 abbrev pub powers_text : Monomial → List ℕ
 powers_text m = starred (power_text (byte "n") m.n_power) (power_text (byte "k") m.k_power)
 
@@ -62,6 +63,7 @@ abbrev pub magnitude_text : ℕ → List ℕ → List ℕ
 magnitude_text c [] = decimal c
 magnitude_text c (p ∷ ps) = if nat_eq c 1 then p ∷ ps else decimal c ⧺ byte "*" ∷ p ∷ ps
 
+-- a monomial without its sign; a magnitude of 1 is left out where n or k follows
 abbrev pub unsigned_text : Monomial → List ℕ
 unsigned_text m = magnitude_text (unsigned_abs m.coefficient) (powers_text m)
 
@@ -74,6 +76,7 @@ sign_text plus (negsuc c) = byte "-" ∷ []
 abbrev pub first_text : Monomial → List ℕ
 first_text m = sign_text [] m.coefficient ⧺ unsigned_text m
 
+-- a monomial behind others has a plus or a minus
 abbrev pub later_text : Monomial → List ℕ
 later_text m = sign_text (byte "+" ∷ []) m.coefficient ⧺ unsigned_text m
 

@@ -13,6 +13,7 @@ form_text f = monomials_text (monomial_before f.k_slope 0 1 (monomial_before f.n
 abbrev pub times_text : ℕ → List ℕ
 times_text power = if nat_eq power 1 then [] else codes " x" ⧺ decimal power
 
+-- a form, and ` x` and the power where it isn't 1
 abbrev pub factor_text : Factor → List ℕ
 factor_text x = form_text x.form ⧺ times_text x.power
 
@@ -21,6 +22,7 @@ abbrev pub items_text : List (List ℕ) → List ℕ
 items_text [] = codes "-"
 items_text (x ∷ xs) = joined (codes ", ") (x ∷ xs)
 
+-- the factors with commas between them, and `-` where there are none
 abbrev pub factors_text : List Factor → List ℕ
 factors_text xs = items_text (map factor_text xs)
 
@@ -28,6 +30,7 @@ factors_text xs = items_text (map factor_text xs)
 abbrev pub factor_list_text : FactorList → List ℕ
 factor_list_text l = signed_decimal l.scale ⧺ codes "; " ⧺ factors_text l.factors
 
+-- a proper term by its eight fields, each behind its word
 abbrev pub proper_term_text : ProperTerm → List ℕ
 proper_term_text t = codes "poly " ⧺ polynomial_text t.poly ⧺ codes "; scale " ⧺ fraction_text t.scale
     ⧺ codes "; nbase " ⧺ fraction_text t.n_base ⧺ codes "; kbase " ⧺ fraction_text t.k_base

@@ -10,6 +10,7 @@ use Rattle.cert_checker.specs.declared.verdicts.Reason.TheVariants.{Shape, Norma
 use Rattle.ekhad_cli.specs.declared.status.Status.{Status}
 use Rattle.ekhad_cli.specs.declared.status.Status.TheVariants.{Found, Empty}
 
+-- the word for the test that fails
 abbrev pub reason_word : Reason → List ℕ
 reason_word Shape = codes "shape"
 reason_word Normal = codes "normal"
@@ -21,10 +22,12 @@ reason_word Case = codes "case"
 reason_word Same = codes "same"
 reason_word Sums = codes "sums"
 
+-- the line `accepted`, or `rejected` with the claim, counted from 0, and the word for the first test that it fails
 abbrev pub verdict_text : Verdict → List ℕ
 verdict_text (Accepted unchecked) = codes "accepted\n"
 verdict_text (Rejected claim reason) = codes "rejected " ++ decimal claim ++ codes " " ++ reason_word reason ++ codes "\n"
 
+-- the status that `check` ends with: Found where it accepts, and Empty where it rejects
 abbrev pub verdict_status : Verdict → Status
 verdict_status (Accepted unchecked) = Found
 verdict_status (Rejected claim reason) = Empty

@@ -24,11 +24,12 @@ abbrev pub AreWordsOf : Command → List (List ℕ) → Type 0
 AreWordsOf Gosper words = words ≡ codes "gosper" ∷ []
 AreWordsOf Check words = words ≡ codes "check" ∷ []
 
--- the most bytes that a command reads, and the limit that this is
+-- the most bytes that a command reads
 abbrev pub most_bytes : Command → ℕ
 most_bytes Gosper = 65536
 most_bytes Check = 16777216
 
+-- the limit on the bytes that a command reads
 abbrev pub byte_limit : Command → RunLimit
 byte_limit Gosper = InputBytes
 byte_limit Check = DocumentBytes

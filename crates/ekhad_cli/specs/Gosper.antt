@@ -17,6 +17,7 @@ use Rattle.ekhad_cli.specs.declared.refusal.SyntaxKind.TheVariants.{Unexpected, 
 abbrev pub IsAnswerText : List ℕ → List ℕ → Type 0
 IsAnswerText term text = (d : Document) × IsAnswerTo term d × (text ≡ document_text d)
 
+-- the fault of a text of a term, by what is wrong there and its place
 abbrev pub fault_of : SyntaxKind → ℕ → Fault
 fault_of Unexpected at = unexpected_at at
 fault_of UnknownName at = unknown_name_at at

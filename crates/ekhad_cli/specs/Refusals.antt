@@ -29,6 +29,7 @@ code_of status.Memory = 7
 code_of status.ReadFault = 8
 code_of status.WriteFault = 9
 
+-- the status that a run with this refusal ends with
 abbrev pub status_of : Refusal → Status
 status_of Usage = status.Usage
 status_of EmptyInput = status.Syntax
@@ -45,6 +46,7 @@ status_of Memory = status.Memory
 status_of ReadFault = status.ReadFault
 status_of WriteFault = status.WriteFault
 
+-- the name of a limit on the bytes that a command reads
 abbrev pub limit_name : RunLimit → List ℕ
 limit_name InputBytes = codes "input bytes"
 limit_name DocumentBytes = codes "document bytes"
@@ -62,6 +64,7 @@ term_limit_name Columns = codes "columns"
 term_limit_name HyperPairs = codes "hyper pairs"
 term_limit_name BoxSide = codes "box"
 
+-- the words for what is wrong in the text of a term
 abbrev pub kind_name : SyntaxKind → List ℕ
 kind_name Unexpected = codes "unexpected"
 kind_name UnknownName = codes "unknown name"

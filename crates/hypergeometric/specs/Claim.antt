@@ -7,6 +7,7 @@ use Rattle.hypergeometric.specs.Fraction.{Fraction, IsDefined, of_whole, fractio
 use Rattle.hypergeometric.specs.LinearForm.{Factor, FactorList, forms_value}
 use Rattle.hypergeometric.specs.ProperTerm.{ProperTerm, proper_value, poly_value, value_in_n}
 
+-- the multipliers a_0 to a_J in n, the carrier K, Y and the poles D, with G = K * Y / D, and the ratio R = G / F as two factor lists
 pub record Claim : Type 0 where
   pub multipliers : List Meaning
   pub carrier : ProperTerm

@@ -4,6 +4,7 @@ use Rattle.std.specs.Int.RustNames.{int_div}
 use lib.IntN.{pow}
 use Rattle.hypergeometric.specs.Fraction.{Fraction}
 
+-- whether d, which is at least 1, divides a
 abbrev pub divides : ℕ → ℕ → Bool
 divides d a = nat_eq (a % d) 0
 
@@ -36,8 +37,10 @@ raised_fraction f (negsuc e) = record { top = pow f.bottom (suc e); bottom = pow
 abbrev pub nonzero_size : ℤ → ℕ
 nonzero_size z = max 1 (unsigned_abs z)
 
+-- the magnitude of the numerator, and 1 for 0
 abbrev pub size_of_top : Fraction → ℕ
 size_of_top f = nonzero_size f.top
 
+-- the magnitude of the denominator, and 1 for 0
 abbrev pub size_of_bottom : Fraction → ℕ
 size_of_bottom f = nonzero_size f.bottom

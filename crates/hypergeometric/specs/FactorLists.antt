@@ -7,6 +7,7 @@ use Rattle.hypergeometric.specs.LinearForm.{LinearForm, Factor}
 abbrev pub same_form : LinearForm → LinearForm → Bool
 same_form f g = int_eq f.k_slope g.k_slope && (int_eq f.n_slope g.n_slope && int_eq f.offset g.offset)
 
+-- the factor of a linear form with a power
 abbrev pub factor_with : LinearForm → ℕ → Factor
 factor_with f power = record { form = f; power = power }
 

@@ -43,6 +43,7 @@ abbrev pub IsSorted : List Factor → Type 0
 IsSorted [] = Unit {0}
 IsSorted (x ∷ xs) = AllByRecursion (λ y. IsBefore x.form y.form) xs × IsSorted xs
 
+-- forms within bounds with powers from 1 to 2^32 - 1, none of them twice
 pub record AreFactors (xs : List Factor) : Type 0 where
   pub each : AllByRecursion IsFactor xs
   pub distinct : NoFormTwice xs

@@ -10,9 +10,11 @@ pub record LinearForm : Type 0 where
   pub k_slope : ℤ
   pub offset : ℤ
 
+-- the value of a linear form at a point
 abbrev pub form_value : LinearForm → Point → ℤ
 form_value f p = f.n_slope *ℤ p.n +ℤ f.k_slope *ℤ p.k +ℤ f.offset
 
+-- m! of a natural number m
 abbrev pub factorial : ℕ → ℕ
 factorial zero = 1
 factorial (suc m) = suc m * factorial m
@@ -47,5 +49,6 @@ abbrev pub forms_value : List Factor → Point → ℤ
 forms_value [] p = pos 1
 forms_value (x ∷ xs) p = pow (form_value x.form p) x.power *ℤ forms_value xs p
 
+-- the value of a factor list at a point: its scale times the values of its forms, by their powers
 abbrev pub factor_list_value : FactorList → Point → ℤ
 factor_list_value l p = l.scale *ℤ forms_value l.factors p

@@ -14,6 +14,7 @@ distinct_once : (xs : List Factor) → IsProp (NoFormTwice xs)
 distinct_once [] = λ u v i. tt
 distinct_once (x ∷ xs) = λ u v i. (each_once (λ y. ¬ (y.form ≡ x.form)) (λ y. Prim.hlevel props) xs u.0 v.0 i, distinct_once xs u.1 v.1 i)
 
+-- any two proofs that the factors of a list are within bounds, and no form stands twice, are equal
 pub factors_once : (xs : List Factor) → IsProp (AreFactors xs)
 factors_once xs = λ u v i. record {
   each = each_once IsFactor (λ x. Prim.hlevel props) xs u.each v.each i;

@@ -7,6 +7,7 @@ use Rattle.hypergeometric.specs.LinearForm.{FactorList}
 use Rattle.hypergeometric.specs.ProperTerm.{ProperTerm}
 use Rattle.hypergeometric.specs.Claim.{Claim}
 
+-- the proper term that is a whole scale times a polynomial in k over those in n
 abbrev pub plain_term : ℤ → Meaning → ProperTerm
 plain_term scale poly = record {
   poly = poly;

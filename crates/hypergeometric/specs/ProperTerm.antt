@@ -27,10 +27,12 @@ poly_value poly p = value_at (values p) poly
 abbrev pub value_in_n : Meaning → Point → ℤ
 value_in_n poly p = value_at (values_in_n p) poly
 
+-- no form of the list is negative at the point
 abbrev pub NoneNegative : List Factor → Point → Type 0
 NoneNegative [] p = Unit {0}
 NoneNegative (x ∷ xs) p = (pos 0 ≤ℤ form_value x.form p) × NoneNegative xs p
 
+-- no form of the list is 0 at the point
 abbrev pub NoneZero : List Factor → Point → Type 0
 NoneZero [] p = Unit {0}
 NoneZero (x ∷ xs) p = (form_value x.form p ≢ pos 0) × NoneZero xs p
@@ -41,6 +43,7 @@ pub record IsDefinedAt (f : ProperTerm) (p : Point) : Type 0 where
   pub guard : NoneNegative f.guard p
   pub over : NoneZero f.over p
 
+-- the value of a proper term at a point where the term is defined; the guard plays no part in it (A=B 4.4)
 abbrev pub proper_value : ProperTerm → Point → Fraction
 proper_value f p =
     fraction_product f.scale (fraction_product (of_whole (poly_value f.poly p))

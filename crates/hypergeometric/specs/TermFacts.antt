@@ -33,6 +33,7 @@ pub record IsWithinLimits (f : LinearForm) : Type 0 where
   pub k_slope : unsigned_abs f.k_slope ≤ 8
   pub offset : unsigned_abs f.offset ≤ 1000000
 
+-- the number of factors of a list, each as often as its power says
 abbrev pub total_power : List Factor → ℕ
 total_power [] = 0
 total_power (x ∷ xs) = x.power + total_power xs
@@ -54,6 +55,7 @@ pub record IsProper (f : ProperTerm) : Type 0 where
   pub over_primitive : AllByRecursion (λ x. IsPrimitive x.form × IsNotConstant x.form) f.over
   pub guard : AreFactors f.guard
 
+-- the form of every factor is within the limits of a term: slopes of at most 8, an offset of at most 1000000 in magnitude
 abbrev pub AllWithinLimits : List Factor → Type 0
 AllWithinLimits xs = AllByRecursion (λ x. IsWithinLimits x.form) xs
 

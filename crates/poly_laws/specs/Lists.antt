@@ -17,6 +17,7 @@ abbrev pub list_product : {A : Type 0} → Ops A → List A → List A → List 
 list_product o [] ys = []
 list_product o (x ∷ xs) ys = list_sum o (map (o.product x) ys) (o.nought ∷ list_product o xs ys)
 
+-- one more coefficient, at the power 0, in front of the others; in front of none a nought is left out
 abbrev pub in_front : {A : Type 0} → Ops A → A → List A → List A
 in_front o x [] = cond (o.is_nought x) [] (x ∷ [])
 in_front o x (y ∷ ys) = x ∷ y ∷ ys

@@ -10,11 +10,12 @@ list_less o [] c gs = []
 list_less o (r ∷ rs) c [] = r ∷ rs
 list_less o (r ∷ rs) c (g ∷ gs) = o.sum r (o.neg (o.product c g)) ∷ list_less o rs c gs
 
--- the item at the end, and those before it
+-- the last item of a list, which is given as its first item and the rest
 abbrev pub last_of : {A : Type 0} → A → List A → A
 last_of x [] = x
 last_of x (y ∷ ys) = last_of y ys
 
+-- all items but the last of a list, which is given as its first item and the rest
 abbrev pub front_of : {A : Type 0} → A → List A → List A
 front_of x [] = []
 front_of x (y ∷ ys) = x ∷ front_of y ys

@@ -14,6 +14,7 @@ abbrev pub list_shift : {A : Type 0} → Ops A → A → List A → List A
 list_shift o t [] = []
 list_shift o t (x ∷ xs) = raised_by o t x (list_shift o t xs)
 
+-- the polynomial at its outermost variable plus a number
 abbrev pub poly_shift : Ops Meaning → ℤ → Meaning → Meaning
 poly_shift o w m = listed (trimmed o (list_shift o (o.whole w) (items m)))
 

@@ -23,6 +23,7 @@ abbrev pub at_least : List Argument → ℕ → ℕ
 at_least [] i = 0
 at_least (x ∷ xs) i = counted x.number x.power i + at_least xs i
 
+-- the greatest number whose factorial is taken, and 0 where there is none
 abbrev pub greatest : List Argument → ℕ
 greatest [] = 0
 greatest (x ∷ xs) = max x.number (greatest xs)
@@ -36,6 +37,7 @@ rising counts i (suc more) = replicate (counts i) i ++ rising counts (i + 1) mor
 abbrev pub left_over : List Argument → List Argument → List ℕ
 left_over above below = rising (λ i. at_least above i - at_least below i) 2 (max (greatest above) (greatest below))
 
+-- t over b, of natural numbers
 abbrev pub quotient : ℕ → ℕ → Fraction
 quotient t b = record { top = pos t; bottom = pos b }
 

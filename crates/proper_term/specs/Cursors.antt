@@ -3,6 +3,7 @@ use Rattle.std.specs.Prelude.{◌≡◌, ℕ, ◌+◌, ◌-◌, ◌≤◌, max, 
 use Rattle.proper_term.specs.Cancelled.{Argument, at_least, greatest, rising}
 use Rattle.proper_term.specs.declared.argument.Argument.{Argument as ArgumentOfCode}
 
+-- the number and the power that an argument of the code stands for
 abbrev pub argument_of : ArgumentOfCode → Argument
 argument_of a = record { number = a.number; power = a.power }
 
@@ -24,6 +25,7 @@ pub record IsNextOfTwo (v first : ℕ) (above below : List Argument) : Type 0 wh
   pub same_above : (j : ℕ) → first ≤ j → j ≤ v → at_least above j ≡ at_least above first
   pub same_below : (j : ℕ) → first ≤ j → j ≤ v → at_least below j ≡ at_least below first
 
+-- the numbers from `first` to v stand equally often in each of the two products of factorials; or none from `first` on stands in either
 abbrev pub IsNextOfBoth : Option ℕ → ℕ → List Argument → List Argument → Type 0
 IsNextOfBoth (Some v) first above below = IsNextOfTwo v first above below
 IsNextOfBoth None first above below = (j : ℕ) → first ≤ j → (at_least above j ≡ 0) × (at_least below j ≡ 0)
@@ -33,6 +35,7 @@ abbrev pub first_of : List ℕ → ℕ
 first_of [] = 1
 first_of (x ∷ xs) = x
 
+-- the numbers of a list behind its first
 abbrev pub rest_of : List ℕ → List ℕ
 rest_of [] = []
 rest_of (x ∷ xs) = xs

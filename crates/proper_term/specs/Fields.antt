@@ -7,6 +7,7 @@ use Rattle.hypergeometric.specs.Fraction.{Fraction}
 use Rattle.hypergeometric.specs.LinearForm.{FactorList}
 use Rattle.hypergeometric.specs.ProperTerm.{ProperTerm}
 
+-- the fraction with this top and this bottom
 abbrev pub number_fraction : ℤ → ℤ → Fraction
 number_fraction top bottom = record { top = top; bottom = bottom }
 

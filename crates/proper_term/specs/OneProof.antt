@@ -52,9 +52,11 @@ not_zero_once f = Prim.hlevel props
 lowest_once : (f : ProperTerm) → IsProp (IsLowest f.scale × IsLowest f.n_base × IsLowest f.k_base)
 lowest_once f = Prim.hlevel props
 
+-- any two proofs that the numbers before the forms of the four lists are 1 are equal
 pub scales_once : (up down over guard : FactorList) → IsProp (HaveUnitScales up down over guard)
 scales_once up down over guard = Prim.hlevel props
 
+-- any two proofs that a term keeps what every proper term keeps are equal
 pub proper_once : (f : ProperTerm) → IsProp (IsProper f)
 proper_once f = λ u v.
     let fractions = lowest_once f (u.scale, u.n_base, u.k_base) (v.scale, v.n_base, v.k_base) in

@@ -22,6 +22,7 @@ size_in_n p poly = sizes (λ z. unsigned_abs (number_of z)) (unsigned_abs p.n) (
 abbrev pub size_at : Point → Meaning → ℕ
 size_at p poly = sizes (size_in_n p) (unsigned_abs p.k) (items poly)
 
+-- the reciprocal of a fraction other than 0
 abbrev pub turned : Fraction → Fraction
 turned f = record { top = f.bottom; bottom = f.top }
 

@@ -3,6 +3,7 @@ use Rattle.std.specs.Prelude.{◌≡◌}
 use Rattle.steps.specs.Steps.{Steps}
 use Rattle.steps.specs.Answers.{Cause, HasCause}
 
+-- the whole has the outcome of the rest, and every cause in the rest is one in the whole
 pub record Leads {P R A : Type 0} (whole rest : Steps P R A) : Type 0 where
   pub outcome : whole.outcome ≡ rest.outcome
   pub cause : (x : Cause P R) → HasCause rest x → HasCause whole x

@@ -6,6 +6,7 @@ use Rattle.steps.specs.Answers.{Cause, refused, too_large, no_memory}
 use Rattle.steps.specs.declared.faults.StepFault.{StepFault}
 use Rattle.steps.specs.declared.faults.StepFault.TheVariants as fault
 
+-- steps of an engine: operations have no places, and nothing but a limit refuses
 abbrev pub EngineSteps : Type 0 → Type 0
 EngineSteps A = Steps (Unit {0}) ⊥ A
 

@@ -14,9 +14,11 @@ pub record Improper : Type 0 where
   pub reason : ℕ
   pub place : ℕ
 
+-- a refusal over the tree of a text: a limit that is passed, with the count, or a reason with its place
 abbrev pub TermRefusal : Type 0
 TermRefusal = Refusal Improper
 
+-- steps over the tree of a text: operations stand at the bytes of nodes, and limits or reasons with places refuse
 abbrev pub TermSteps : Type 0 → Type 0
 TermSteps A = Steps ℕ Improper A
 

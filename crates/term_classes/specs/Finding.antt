@@ -15,30 +15,36 @@ use Rattle.hypergeometric.specs.PrimitiveForm.{is_zero}
 use Rattle.grammar.specs.Tree.{Tree, tree, Node, literal, variable_n, variable_k, sum_of, product_of, power_of, factorial_of, binomial_of, Parts, no_parts, part}
 use Rattle.term_classes.specs.TreePolynomial.{constant_of}
 
+-- the sum of polynomials in n and k, which is 0 of none
 abbrev pub sum_of_polynomials : List Meaning → Meaning
 sum_of_polynomials [] = in_n_and_k.nought
 sum_of_polynomials (p ∷ ps) = in_n_and_k.sum p (sum_of_polynomials ps)
 
+-- the product of polynomials in n and k, which is 1 of none
 abbrev pub product_of_polynomials : List Meaning → Meaning
 product_of_polynomials [] = in_n_and_k.unit
 product_of_polynomials (p ∷ ps) = in_n_and_k.product p (product_of_polynomials ps)
 
--- the counterparts of a sum, of a product and of a power; factors that are 0 are left out
+-- the counterpart of a sum of polynomials
 abbrev pub sizes_added : List Meaning → Meaning
 sizes_added [] = in_n_and_k.nought
 sizes_added (p ∷ ps) = in_n_and_k.sum (in_n_and_k.magnitude p) (sizes_added ps)
 
+-- the counterpart of a product of polynomials, without the factors that are 0
 abbrev pub sizes_multiplied : List Meaning → Meaning
 sizes_multiplied [] = in_n_and_k.unit
 sizes_multiplied (p ∷ ps) = in_n_and_k.product (nonzero_magnitude in_n_and_k p) (sizes_multiplied ps)
 
+-- the counterpart of a power of a polynomial, in which a base 0 counts as 1
 abbrev pub size_raised : Meaning → ℕ → Meaning
 size_raised p e = power_in in_n_and_k (nonzero_magnitude in_n_and_k p) e
 
+-- the polynomial of a part of a sum, negated where the part is subtracted
 abbrev pub signed_polynomial : Bool → Meaning → Meaning
 signed_polynomial true p = in_n_and_k.neg p
 signed_polynomial false p = p
 
+-- the base to a natural power, where there is a base, as the operation of the node at the place
 abbrev pub raised_at : ℕ → ℕ → Option Meaning → TermSteps (Option Meaning)
 raised_at at e = made_of at (λ p. of_polynomial (size_raised p e)) (λ p. poly_power p e)
 
@@ -91,14 +97,17 @@ divides_by_zero (x ∷ xs) = (x.0 && is_zero x.1.top) || divides_by_zero xs
 abbrev pub factor_fraction : FractionFactor → Fraction
 factor_fraction x = if x.0 then record { top = x.1.bottom; bottom = x.1.top } else x.1
 
+-- the product of the factors, in which those that are divided by stand upside down; not in lowest terms
 abbrev pub product_of_fractions : List FractionFactor → Fraction
 product_of_fractions [] = of_whole (pos 1)
 product_of_fractions (x ∷ xs) = fraction_product (factor_fraction x) (product_of_fractions xs)
 
+-- the numerator of the counterpart of a product of fractions, in which a factor with the numerator 0 counts as 1
 abbrev pub top_sizes : List FractionFactor → ℕ
 top_sizes [] = 1
 top_sizes (x ∷ xs) = size_of_top (factor_fraction x) * top_sizes xs
 
+-- the denominator of the counterpart of a product of fractions, in which a factor with the denominator 0 counts as 1
 abbrev pub bottom_sizes : List FractionFactor → ℕ
 bottom_sizes [] = 1
 bottom_sizes (x ∷ xs) = size_of_bottom (factor_fraction x) * bottom_sizes xs
@@ -117,10 +126,12 @@ power_made at (pos e) f =
     makes at (of_fraction (size_of_top (raised_fraction f (pos e))) (size_of_bottom (raised_fraction f (pos e))))
     (Some (lowest_terms (raised_fraction f (pos e))))
 
+-- a number as a fraction, where there is one
 abbrev pub fraction_of_whole : Option ℤ → Option Fraction
 fraction_of_whole None = None
 fraction_of_whole (Some z) = Some (of_whole z)
 
+-- the negative of a fraction, where there is one
 abbrev pub negative_of : Option Fraction → Option Fraction
 negative_of None = None
 negative_of (Some f) = Some (fraction_negative f)

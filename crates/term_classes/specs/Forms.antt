@@ -25,6 +25,7 @@ form_of_items (c ∷ []) = form_of_coefficients (items c) (Some (pos 0))
 form_of_items (c ∷ d ∷ []) = form_of_coefficients (items c) (constant_in_n (items d))
 form_of_items (c ∷ d ∷ e ∷ more) = None
 
+-- the linear form that a polynomial is, where there is a polynomial and its total degree is at most 1
 abbrev pub linear_form_of : Option Meaning → Option LinearForm
 linear_form_of None = None
 linear_form_of (Some p) = form_of_items (items p)

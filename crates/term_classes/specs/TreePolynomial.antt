@@ -6,15 +6,18 @@ use Rattle.ring_laws.specs.Meaning.{Meaning, items}
 use Rattle.poly_laws.specs.TwoVariables.{in_n_and_k, poly_n, poly_k, poly_power, constant_in_k}
 use Rattle.grammar.specs.Tree.{Tree, tree, Node, literal, variable_n, variable_k, sum_of, product_of, power_of, factorial_of, binomial_of, Parts, no_parts, part}
 
+-- the number that a polynomial in n and k is, where there is a polynomial and it is one
 abbrev pub constant_of : Option Meaning → Option ℤ
 constant_of None = None
 constant_of (Some p) = constant_in_k (items p)
 
+-- an operation on two polynomials, where there are both
 abbrev pub combined : (Meaning → Meaning → Meaning) → Option Meaning → Option Meaning → Option Meaning
 combined op (Some p) (Some q) = Some (op p q)
 combined op (Some p) None = None
 combined op None q = None
 
+-- the polynomial of a part of a sum, where it has one, negated where the part is subtracted
 abbrev pub signed_poly : Bool → Option Meaning → Option Meaning
 signed_poly turned None = None
 signed_poly false (Some p) = Some p

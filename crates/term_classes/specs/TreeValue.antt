@@ -26,6 +26,7 @@ abbrev pub factorial_power : ℤ → ℤ → Fraction
 factorial_power (pos w) m = natural_power (factorial_value m) w
 factorial_power (negsuc w) m = natural_power (inverse_factorial_value m) (suc w)
 
+-- the value of a part of a sum, negated where the part is subtracted
 abbrev pub signed_value : Bool → Fraction → Fraction
 signed_value true f = fraction_negative f
 signed_value false f = f

@@ -27,22 +27,27 @@ use Rattle.term_classes.specs.Finding.{find_polynomial, find_node_polynomial, fi
 abbrev pub unit_term : ProperTerm
 unit_term = plain_term (pos 1) in_n_and_k.unit
 
+-- the place in the text of the node of a tree
 abbrev pub place_of : Tree → ℕ
 place_of (tree at node) = at
 
--- the term with another field
+-- the term with another polynomial
 abbrev pub with_poly : Meaning → ProperTerm → ProperTerm
 with_poly p f = record { poly = p; scale = f.scale; n_base = f.n_base; k_base = f.k_base; up = f.up; down = f.down; over = f.over; guard = f.guard }
 
+-- the term with another scale
 abbrev pub with_scale : Fraction → ProperTerm → ProperTerm
 with_scale s f = record { poly = f.poly; scale = s; n_base = f.n_base; k_base = f.k_base; up = f.up; down = f.down; over = f.over; guard = f.guard }
 
+-- the term with another base for the exponent n
 abbrev pub with_n_base : Fraction → ProperTerm → ProperTerm
 with_n_base b f = record { poly = f.poly; scale = f.scale; n_base = b; k_base = f.k_base; up = f.up; down = f.down; over = f.over; guard = f.guard }
 
+-- the term with another base for the exponent k
 abbrev pub with_k_base : Fraction → ProperTerm → ProperTerm
 with_k_base b f = record { poly = f.poly; scale = f.scale; n_base = f.n_base; k_base = b; up = f.up; down = f.down; over = f.over; guard = f.guard }
 
+-- the term with other lists, in the order up, down, over, guard
 abbrev pub with_lists : List Factor → List Factor → List Factor → List Factor → ProperTerm → ProperTerm
 with_lists u d o g f = record { poly = f.poly; scale = f.scale; n_base = f.n_base; k_base = f.k_base; up = u; down = d; over = o; guard = g }
 
@@ -94,6 +99,7 @@ abbrev pub form_or_refused : ℕ → Tree → Option LinearForm → TermSteps Li
 form_or_refused reason t None = refuses (improper reason (place_of t))
 form_or_refused reason t (Some l) = gives l
 
+-- the linear form of an argument of factorials, which is refused for reason 1 where it is none
 abbrev pub find_argument : Tree → TermSteps LinearForm
 find_argument t = find_polynomial t then (λ p. form_or_refused 1 t (linear_form_of p))
 

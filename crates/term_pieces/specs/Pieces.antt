@@ -29,6 +29,7 @@ pub record Pieces : Type 0 where
 abbrev pub no_top : Top
 no_top = record { poly = (level 2).ops.nought; factors = record { scale = pos 1; factors = [] } }
 
+-- the top at a place of a list, counted from 0, and the product 0 behind its end
 abbrev pub top_in : List Top → ℕ → Top
 top_in [] j = no_top
 top_in (t ∷ ts) zero = t

@@ -13,6 +13,7 @@ use Rattle.term_walk.specs.declared.factors.Factors.{Factors}
 use Rattle.term_walk.specs.declared.gathered.Gathered.{Gathered}
 use Rattle.term_walk.specs.declared.wide_forms.WideForm.{WideForm}
 
+-- the linear form that a form with numbers of 127 bits stands for
 abbrev pub wide_form_of : WideForm → LinearForm
 wide_form_of form = form_with form.n_slope.value form.k_slope.value form.offset.value
 

@@ -25,11 +25,13 @@ pub data ExponentKind : Type 0 where
   constant : ℤ → ExponentKind
   varying : Option LinearForm → ExponentKind
 
+-- what an exponent of the code is to a walk
 abbrev pub exponent_of : Exponent → ExponentKind
 exponent_of code.Zero = zero_exponent
 exponent_of (code.Constant power) = constant power.value
 exponent_of (code.Varying form) = varying (found wide_form_of form)
 
+-- what a constant exponent c is to a walk that takes the whole to a power: 0, or the power times c
 abbrev pub constant_kind : ℤ → ℤ → ExponentKind
 constant_kind power c = if is_zero c then zero_exponent else constant (power *ℤ c)
 
@@ -40,6 +42,7 @@ exponent_told power p = elim (constant_of p) as (λ _. TermSteps ExponentKind) [
   | None ↦ gives (varying (linear_form_of p))
 ]
 
+-- what the exponent with this tree is to a walk that takes the whole to a power
 abbrev pub find_exponent_kind : Tree → ℤ → TermSteps ExponentKind
 find_exponent_kind t power = find_polynomial t then (exponent_told power)
 
@@ -53,20 +56,22 @@ abbrev pub exponential_left : ℕ → Tree → Tree → Option LinearForm → �
 exponential_left at base e form power f = find_constant base then (λ b. w.base_or_refused at b then (λ b1.
     w.form_or_refused 5 e form then (λ l. limited_exponent l then (λ l1. w.times_exponential at b1 l power f))))
 
+-- what is left of the walk over a power once its exponent is known
 abbrev pub power_left : ℕ → Tree → Tree → ℤ → ProperTerm → ExponentKind → TermSteps ProperTerm
 power_left at base e power f zero_exponent = gives f
 power_left at base e power f (constant c) = w.walk base c f
 power_left at base e power f (varying form) = exponential_left at base e form power f
 
--- a binomial coefficient, once its two forms are found and are no negative numbers; once their difference is found, and is none either; and
--- once all three are within the limits
+-- what is left of the walk over a binomial coefficient of the forms l and m once these and d = l - m are within the limits
 abbrev pub factorials_left : LinearForm → LinearForm → LinearForm → ℤ → ProperTerm → TermSteps ProperTerm
 factorials_left l m d power f = w.with_factorial l power f then (λ g. w.with_factorial m (neg_ℤ power) g then (λ h.
     w.with_factorial d (neg_ℤ power) h))
 
+-- what is left of the walk over a binomial coefficient of the forms l and m once d = l - m is found and none of them is a negative number
 abbrev pub limits_left : LinearForm → LinearForm → LinearForm → ℤ → ProperTerm → TermSteps ProperTerm
 limits_left l m d power f = limited_form l then (λ l2. limited_form m then (λ m2. limited_form d then (λ d2. factorials_left l m d power f)))
 
+-- what is left of the walk over a binomial coefficient once its two forms are found and neither is a negative number
 abbrev pub difference_left : ℕ → LinearForm → LinearForm → ℤ → ProperTerm → TermSteps ProperTerm
 difference_left at l m power f = makes at (of_number (difference_size l m)) (form_difference l m) then
     (λ d. w.not_negative at d then (λ d1. limits_left l m d power f))

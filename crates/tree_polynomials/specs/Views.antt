@@ -8,6 +8,7 @@ use Rattle.ring_laws.specs.declared.wholes.Whole.{Whole}
 use Rattle.hypergeometric.specs.Fraction.{Fraction}
 use Rattle.proper_term.specs.Fields.{number_fraction_of}
 
+-- the number that a whole number of the code stands for
 abbrev pub whole_value : Whole → ℤ
 whole_value whole = whole.value
 
