@@ -2,3 +2,4 @@ pub mod Contents
 mod FormMeanings
 pub mod CommonFactors
 mod KnownForms
+mod KnownDivisions

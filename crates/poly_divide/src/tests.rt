@@ -95,3 +95,41 @@ fn a_common_factor_at_three_levels(rt: HostRuntime) -> Result<(), RingFault> {
     assert!(rt; is_taken_out(alloc, &common, &left, &right)?);
     Ok(())
 }
+
+fn is_too_large<T>(answer: &Result<T, RingFault>) -> bool {
+    matches!(answer, Err(RingFault::TooLarge))
+}
+
+// 64*n^2 + 193*n + 3 = (64*n + 1)*(n + 3)
+#[test]
+fn a_form_of_slope_64(rt: HostRuntime) -> Result<(), RingFault> {
+    let alloc = rt.alloc();
+    let product = numbers(alloc, &[3, 193, 64])?;
+    match divide_by_linear(alloc, &product, 64, 1)? {
+        Some(quotient) => assert!(rt; quotient.same(&numbers(alloc, &[3, 1])?)),
+        None => assert!(rt; false),
+    }
+    assert!(rt; divide_by_linear(alloc, &product, 63, 1)?.is_none());
+    let in_k = line(alloc, numbers(alloc, &[3])?, numbers(alloc, &[64])?)?;
+    assert!(rt; divide_by_form(alloc, &in_k, 64, 0, 3)?.is_some());
+    assert!(rt; divide_by_form(alloc, &in_k, 64, 0, 1)?.is_none());
+    Ok(())
+}
+
+// The second step of 2^126*n by n + 2 has the product 2^127.
+#[test]
+fn steps_that_are_too_large(rt: HostRuntime) -> Result<(), RingFault> {
+    let alloc = rt.alloc();
+    let half: i128 = 1 << 126;
+    let wide = numbers(alloc, &[0, half])?;
+    assert!(rt; is_too_large(&divide_by_linear(alloc, &wide, 1, 2)));
+    assert!(rt; divide_by_linear(alloc, &wide, 1, 1)?.is_none());
+    let in_k = line(alloc, numbers(alloc, &[])?, numbers(alloc, &[half])?)?;
+    assert!(rt; is_too_large(&divide_by_form(alloc, &in_k, 1, 0, 2)));
+    assert!(rt; divide_by_form(alloc, &in_k, 1, 0, 1)?.is_none());
+    let two = number(2)?;
+    let zero = number(0)?;
+    assert!(rt; is_too_large(&is_taken_out(alloc, &two, &number(half)?, &zero)));
+    assert!(rt; is_taken_out(alloc, &two, &number(half - 1)?, &zero)?);
+    Ok(())
+}

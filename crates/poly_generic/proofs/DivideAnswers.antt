@@ -1,6 +1,6 @@
 -- The steps of a division, from what the ring's calls answer.
-use Rattle.std.proofs.Common.{◌≡◌, ℕ, zero, suc, ◌+◌, ◌<◌, List, [], ◌∷◌, ◌++◌, map, length, get_or, drop, replicate, refl, sym, ap, ◌∙◌, subst, arith, Result, Ok, Err, Option, Some, IsErrAnd, option_to_list}
-use Rattle.std.proofs.lemmas.List.{length-map, map-append, drop-map, drop_more}
+use Rattle.std.proofs.Common.{◌≡◌, ℕ, zero, suc, ◌+◌, ◌<◌, List, [], ◌∷◌, ◌++◌, map, length, get_or, take, drop, set, replicate, refl, sym, ap, ◌∙◌, subst, arith, Result, Ok, Err, Option, Some, IsErrAnd, option_to_list}
+use Rattle.std.proofs.lemmas.List.{length-map, map-append, take_more, take_more_set, drop-map, drop_more}
 use Rattle.ring_laws.specs.declared.faults.RingFault.{RingFault}
 use Rattle.poly_generic.specs.ListAnswer.{DividesList}
 use Rattle.poly_laws.specs.Lists.{coefficient_at}
@@ -50,6 +50,32 @@ module _ {T : Type 0} (a : Algebra) (meaning : T → Meaning) where
       (λ n k. n (subst (λ u. SumInBounds a (meaning x) u) (ap (a.ops.product c) t
       ∙ sym g) (subst (λ u. SumInBounds a u (a.ops.product c (coefficient_at a.ops (map meaning ys) i))) s
       (k i (omega (arith, length-map ys meaning))).1))) h
+
+  -- one difference more, in its place
+  pub less_more : (xs : List T) (c : Meaning) (ys old new : List T) (i : ℕ) (x y item : T) (part : Meaning) → length xs ≡ length ys → i < length ys
+      → i < length old → x ≡ get_or xs i x → y ≡ get_or ys i y → part ≡ a.ops.product c (meaning y)
+      → meaning item ≡ a.ops.sum (meaning x) (a.ops.neg part) → new ≡ set old i item
+      → map meaning (take i old) ≡ take i (list_less a.ops (map meaning xs) c (map meaning ys))
+      → map meaning (take (i + 1) new) ≡ take (i + 1) (list_less a.ops (map meaning xs) c (map meaning ys))
+  less_more xs c ys old new i x y item part n p q e f g h k made =
+      let zs : List Meaning = list_less a.ops (map meaning xs) c (map meaning ys) in
+      let l : length (map meaning xs) ≡ length (map meaning ys) = omega (arith, n, length-map xs meaning, length-map ys meaning) in
+      let b : i < length (map meaning xs) = omega (arith, n, p, length-map xs meaning) in
+      let d : i < length (map meaning ys) = omega (arith, p, length-map ys meaning) in
+      let is : meaning item ≡ coefficient_at a.ops zs i =
+      cc (
+        h,
+        g,
+        less_at a.ops (map meaning xs) c (map meaning ys) i b d,
+        at_item a.ops meaning xs i x (omega (arith, n, p)) e,
+        at_item a.ops meaning ys i y p f,
+      ) in
+      ap (λ t. map meaning (take (i + 1) t)) k
+      ∙ ap (map meaning) (take_more_set old i item q)
+      ∙ map-append meaning (take i old) (item ∷ [])
+      ∙ ap (λ t. t ++ meaning item ∷ []) made
+      ∙ ap (λ t. take i zs ++ t ∷ []) is
+      ∙ sym (take_more zs i a.ops.nought (omega (arith, b, length-less a.ops (map meaning xs) c (map meaning ys) l)))
 
   -- the run, one coefficient further
   pub run_on : (xs : List T) (i : ℕ) (x : T) (qs rs front : List Meaning) (gs : List Meaning) (lead top : Meaning) (c : Passing a) → i < length xs

@@ -3,6 +3,7 @@ pub mod AnswerLemmas
 pub mod Accessors
 pub mod PolyAnswers
 pub mod Senses
+pub mod Convolution
 pub mod ProductSteps
 pub mod MagnitudeSums
 pub mod SumAnswers
@@ -13,6 +14,7 @@ pub mod DivideAnswers
 pub mod DomainAnswers
 pub mod MultipleAnswers
 pub mod StepAnswers
+pub mod Raising
 pub mod EvalAnswers
 pub mod SquaringSteps
 pub mod InnerShiftAnswers

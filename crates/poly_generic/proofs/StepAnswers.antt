@@ -1,13 +1,12 @@
 -- Why a value or a shift of a list is out of bounds where one of its steps is.
-use Rattle.std.proofs.Common.{◌≡◌, ℕ, ◌+◌, ◌<◌, IsTrue, List, [], ◌∷◌, map, length, get_or, drop, sym, ap, ◌∙◌, subst, Result, Ok, Err, IsErrAnd}
+use Rattle.std.proofs.Common.{◌≡◌, ℕ, ◌+◌, ◌<◌, IsTrue, List, ◌∷◌, map, length, get_or, drop, sym, ap, ◌∙◌, subst, Result, Ok, Err, IsErrAnd}
 use Rattle.std.proofs.lemmas.List.{drop-map, drop_more}
 use Rattle.ring_laws.specs.Meaning.{Meaning}
 use Rattle.ring_laws.specs.Algebra.{Algebra, Passing, Laws, SumInBounds, ProductInBounds}
 use Rattle.ring_laws.specs.Answer.{OnFault, fault_weaker}
 use Rattle.ring_laws.specs.declared.faults.RingFault.{RingFault}
-use Rattle.poly_laws.specs.Bounds.{ListSumInBounds, ScalingInBounds}
+use Rattle.poly_laws.specs.Bounds.{ScalingInBounds}
 use Rattle.poly_laws.specs.Evaluation.{list_value, ValueInBounds}
-use Rattle.poly_laws.specs.Lists.{list_sum}
 use Rattle.poly_laws.specs.Shift.{list_shift, ListShiftInBounds}
 use Rattle.poly_laws.proofs.StepMeanings.{ValueStep, value_steps, ShiftStep, shift_steps}
 use Rattle.poly_generic.specs.ListAnswer.{GivesValue, RaisingInBounds}
@@ -19,24 +18,10 @@ pub fault_value : {T : Type 0} (meaning : T → Meaning) (InBounds : Type 0) (m 
 fault_value meaning InBounds m (Ok v) fault e h = absurd e
 fault_value meaning InBounds m (Err d) fault e h = subst (OnFault (¬ InBounds)) (sym e) h
 
--- the bounds of a raising are those of its three steps
+-- the bounds of a raising are those of its products, too
 pub products_fault : (a : Algebra) (t x : Meaning) (ys : List Meaning) (fault : RingFault)
     → OnFault (¬ (ScalingInBounds a t ys)) fault → OnFault (¬ (RaisingInBounds a t x ys)) fault
 products_fault a t x ys fault h = fault_weaker fault (λ n b. n b.products) h
-
-pub row_of_fault : (a : Algebra) (t x : Meaning) (ys products moved : List Meaning) (fault : RingFault)
-    → products ≡ map (a.ops.product t) ys → moved ≡ a.ops.nought ∷ ys
-    → OnFault (¬ (ListSumInBounds a products moved)) fault → OnFault (¬ (RaisingInBounds a t x ys)) fault
-row_of_fault a t x ys products moved fault e f h =
-    fault_weaker fault (λ n b.
-    n (subst (λ z. ListSumInBounds a z moved) (sym e) (subst (λ z. ListSumInBounds a (map (a.ops.product t) ys) z) (sym f) b.row))) h
-
-pub constant_fault : (a : Algebra) (t x : Meaning) (ys constants row : List Meaning) (fault : RingFault)
-    → constants ≡ x ∷ [] → row ≡ list_sum a.ops (map (a.ops.product t) ys) (a.ops.nought ∷ ys)
-    → OnFault (¬ (ListSumInBounds a constants row)) fault → OnFault (¬ (RaisingInBounds a t x ys)) fault
-constant_fault a t x ys constants row fault e f h =
-    fault_weaker fault
-    (λ n b. n (subst (λ z. ListSumInBounds a z row) (sym e) (subst (λ z. ListSumInBounds a (x ∷ []) z) (sym f) b.constant))) h
 
 module _ {T : Type 0} (a : Algebra) (l : Laws a) (meaning : T → Meaning)
     (passes : (x : T) → IsTrue (a.passes (meaning x))) (fits : (x : T) → a.ops.Fits (meaning x)) where

@@ -19,6 +19,7 @@ fn zeros<R: Ring>(alloc: Global, count: usize) -> Result<Vec<R>, RingFault>
     ensures { GivesList R.meaning ⊤ (replicate count R.algebra.ops.nought) result }
 {
     let mut out = Vec::new(alloc);
+    let _room = out.reserve(count);
     for at in 0..count {
         let item = R::zero(alloc)?;
         out.push(item)?;
@@ -26,19 +27,18 @@ fn zeros<R: Ring>(alloc: Global, count: usize) -> Result<Vec<R>, RingFault>
     Ok(out)
 }
 
-// The list less the factor times the other list, at each power.
-fn reduced<R: Ring>(alloc: Global, list: &[R], factor: &R, by: &[R]) -> Result<Vec<R>, RingFault>
-    requires same_length { length list.now ≡ length by.now }
-    ensures { GivesList R.meaning (ReductionInBounds R.algebra (map R.meaning list.now) (R.meaning factor.now) (map R.meaning by.now))
-        (list_less R.algebra.ops (map R.meaning list.now) (R.meaning factor.now) (map R.meaning by.now)) result }
+// The list less the factor times the other list, at each power, in the places of the list.
+fn reduced<R: Ring>(alloc: Global, list: Vec<R>, factor: &R, by: &[R]) -> Result<Vec<R>, RingFault>
+    requires same_length { length list.items ≡ length by.now }
+    ensures { GivesList R.meaning (ReductionInBounds R.algebra (map R.meaning list.items) (R.meaning factor.now) (map R.meaning by.now))
+        (list_less R.algebra.ops (map R.meaning list.items) (R.meaning factor.now) (map R.meaning by.now)) result }
 {
-    let mut out = Vec::new(alloc);
-    for power in 0..list.len() {
+    let mut list = list;
+    for power in 0..by.len() {
         let part = factor.mul(alloc, &by[power])?;
-        let item = list[power].sub(alloc, &part)?;
-        out.push(item)?;
+        list[power] = list[power].sub(alloc, &part)?;
     }
-    Ok(out)
+    Ok(list)
 }
 
 // Whether each coefficient is zero.
@@ -65,6 +65,7 @@ pub fn divide_lists<D: Domain>(
         (map D.meaning list.now) (map D.meaning low.now) (D.meaning lead.now) result }
 {
     let mut quotient: Vec<D> = Vec::new(alloc);
+    let _room = quotient.reserve(list.len());
     let mut rest: Vec<D> = zeros(alloc, low.len())?;
     let mut power = list.len();
     while power > 0 {
@@ -76,8 +77,9 @@ pub fn divide_lists<D: Domain>(
             Some(part) => part,
             None => return Ok(None),
         };
-        rest = reduced(alloc, &rest, &part, low)?;
-        quotient.insert(0, part)?;
+        rest = reduced(alloc, rest, &part, low)?;
+        quotient.push(part)?;
     }
+    quotient.reverse();
     Ok(Some(Divided { quotient, rest }))
 }

@@ -5,9 +5,9 @@ ghost use Rattle.poly_laws.specs.Evaluation.{list_value, ValueInBounds};
 ghost use Rattle.poly_laws.specs.Shift.{raised_by, list_shift, ListShiftInBounds};
 ghost use Rattle.poly_generic.specs.ListAnswer.{GivesValue, GivesList, RaisingInBounds};
 
-use crate::lists::{raised, scaled, sums};
 use ring_laws::{Ring, RingFault};
 use std::alloc::Global;
+use std::mem;
 
 // The value of the polynomial of these coefficients.
 pub fn value_of_list<R: Ring>(alloc: Global, list: &[R], at: &R) -> Result<R, RingFault>
@@ -25,7 +25,7 @@ pub fn value_of_list<R: Ring>(alloc: Global, list: &[R], at: &R) -> Result<R, Ri
     Ok(value)
 }
 
-// The constant, and the list times the variable plus a value.
+// The constant, and the list times the variable plus a value, in the places of the list: each coefficient times the value, and the one below.
 fn raised_with<R: Ring>(
     alloc: Global,
     constant: &R,
@@ -35,14 +35,15 @@ fn raised_with<R: Ring>(
     ensures { GivesList R.meaning (RaisingInBounds R.algebra (R.meaning by.now) (R.meaning constant.now) (map R.meaning list.items))
         (raised_by R.algebra.ops (R.meaning by.now) (R.meaning constant.now) (map R.meaning list.items)) result }
 {
-    let products = scaled(alloc, by, &list)?;
-    let moved = raised(alloc, list)?;
-    let row = sums(alloc, &products, &moved)?;
-    let first = constant.duplicate(alloc)?;
-    let mut constants = Vec::new(alloc);
-    constants.push(first)?;
-    let out = sums(alloc, &constants, &row)?;
-    Ok(out)
+    let mut list = list;
+    let mut below = constant.duplicate(alloc)?;
+    for power in 0..list.len() {
+        let product = by.mul(alloc, &list[power])?;
+        let item = product.add(alloc, &below)?;
+        below = mem::replace(&mut list[power], item);
+    }
+    list.push(below)?;
+    Ok(list)
 }
 
 // The coefficients of the polynomial at the variable plus a value.
@@ -51,6 +52,7 @@ pub fn shift_of_list<R: Ring>(alloc: Global, list: &[R], by: &R) -> Result<Vec<R
         (list_shift R.algebra.ops (R.meaning by.now) (map R.meaning list.now)) result }
 {
     let mut shifted: Vec<R> = Vec::new(alloc);
+    let _room = shifted.reserve(list.len());
     let mut power = list.len();
     while power > 0 {
         power -= 1;

@@ -1,10 +1,10 @@
 //! Lists of coefficients, from power 0 up.
 
-ghost use Rattle.std.specs.Prelude.{◌≡◌, ◌↔◌, ◌⊎◌, ◌<◌, IsTrue, map, ◌∷◌, length, ⊤};
+ghost use Rattle.std.specs.Prelude.{◌≡◌, ◌↔◌, ◌⊎◌, ◌<◌, ◌+◌, IsTrue, map, length, ⊤};
 ghost use Rattle.ring_laws.specs.Answer.{GivesInBounds};
 ghost use Rattle.poly_laws.specs.Lists.{coefficient_at, list_sum, list_product, trimmed, is_trimmed};
-ghost use Rattle.poly_laws.specs.Bounds.{SumInBoundsAt, ListSumInBounds, ListProductInBounds, ScalingInBounds};
-ghost use Rattle.poly_generic.specs.ListAnswer.{GivesList, GivesListInBounds};
+ghost use Rattle.poly_laws.specs.Bounds.{SumInBoundsAt, ListSumInBounds, ListProductInBounds};
+ghost use Rattle.poly_generic.specs.ListAnswer.{GivesValue, GivesList, GivesListInBounds};
 
 use ring_laws::{Ring, RingFault};
 use std::alloc::Global;
@@ -50,8 +50,9 @@ pub fn sums<R: Ring>(alloc: Global, a: &[R], b: &[R]) -> Result<Vec<R>, RingFaul
     ensures { GivesListInBounds R.meaning (ListSumInBounds R.algebra (map R.meaning a.now) (map R.meaning b.now))
         (list_sum R.algebra.ops (map R.meaning a.now) (map R.meaning b.now)) result }
 {
-    let mut out = Vec::new(alloc);
     let count = a.len().max(b.len());
+    let mut out = Vec::new(alloc);
+    let _room = out.reserve(count);
     for power in 0..count {
         let item = sum_at(alloc, a, b, power)?;
         out.push(item)?;
@@ -59,42 +60,53 @@ pub fn sums<R: Ring>(alloc: Global, a: &[R], b: &[R]) -> Result<Vec<R>, RingFaul
     Ok(out)
 }
 
-// Each coefficient times the factor.
-pub fn scaled<R: Ring>(alloc: Global, factor: &R, list: &[R]) -> Result<Vec<R>, RingFault>
-    ensures { GivesList R.meaning (ScalingInBounds R.algebra (R.meaning factor.now) (map R.meaning list.now))
-        (map (R.algebra.ops.product (R.meaning factor.now)) (map R.meaning list.now)) result }
+// The coefficient of the product at the sum of two places: the products of the coefficients of `a` from `last` down with those of `b` from
+// `first` up, as far as both go, where that is all of them.
+fn product_at<R: Ring>(
+    alloc: Global,
+    a: &[R],
+    b: &[R],
+    last: usize,
+    first: usize,
+) -> Result<R, RingFault>
+    requires within { last < length a.now }
+    requires whole { (first ≡ 0) ⊎ (last + 1 ≡ length a.now) }
+    ensures { GivesValue R.meaning (ListProductInBounds R.algebra (map R.meaning a.now) (map R.meaning b.now))
+        (coefficient_at R.algebra.ops (list_product R.algebra.ops (map R.meaning a.now) (map R.meaning b.now)) (last + first)) result }
 {
-    let mut out = Vec::new(alloc);
-    for item in list {
-        let product = factor.mul(alloc, item)?;
-        out.push(product)?;
+    let mut sum = R::zero(alloc)?;
+    let mut left = last + 1;
+    let mut at = first;
+    while left > 0 {
+        if at >= b.len() {
+            return Ok(sum);
+        }
+        left -= 1;
+        let product = a[left].mul(alloc, &b[at])?;
+        sum = product.add(alloc, &sum)?;
+        at += 1;
     }
-    Ok(out)
+    Ok(sum)
 }
 
-// A zero in front of the list: the list times the variable.
-pub fn raised<R: Ring>(alloc: Global, list: Vec<R>) -> Result<Vec<R>, RingFault>
-    ensures { GivesList R.meaning ⊤ (R.algebra.ops.nought ∷ map R.meaning list.items) result }
-{
-    let zero = R::zero(alloc)?;
-    let mut list = list;
-    list.insert(0, zero)?;
-    Ok(list)
-}
-
-// The product of two lists of coefficients, from the greatest power of the first down. Where it answers `TooLarge`, some
-// coefficient of the product of the magnitudes doesn't fit.
+// The product of two lists of coefficients, from power 0 up. Where it answers `TooLarge`, some coefficient of the product of the
+// magnitudes doesn't fit.
 pub fn product_of_lists<R: Ring>(alloc: Global, a: &[R], b: &[R]) -> Result<Vec<R>, RingFault>
     ensures { GivesList R.meaning (ListProductInBounds R.algebra (map R.meaning a.now) (map R.meaning b.now))
         (list_product R.algebra.ops (map R.meaning a.now) (map R.meaning b.now)) result }
 {
     let mut out: Vec<R> = Vec::new(alloc);
-    let mut power = a.len();
-    while power > 0 {
-        power -= 1;
-        let row = scaled(alloc, &a[power], b)?;
-        let rest = raised(alloc, out)?;
-        out = sums(alloc, &row, &rest)?;
+    let _room = out.reserve(a.len().saturating_add(b.len()));
+    for last in 0..a.len() {
+        let item = product_at(alloc, a, b, last, 0)?;
+        out.push(item)?;
+    }
+    if a.is_empty() {
+        return Ok(out);
+    }
+    for first in 1..b.len() {
+        let item = product_at(alloc, a, b, a.len() - 1, first)?;
+        out.push(item)?;
     }
     Ok(out)
 }
@@ -104,6 +116,7 @@ pub fn copies<R: Ring>(alloc: Global, list: &[R]) -> Result<Vec<R>, RingFault>
     ensures { GivesList R.meaning ⊤ (map R.meaning list.now) result }
 {
     let mut out = Vec::new(alloc);
+    let _room = out.reserve(list.len());
     for item in list {
         let copy = item.duplicate(alloc)?;
         out.push(copy)?;
@@ -116,6 +129,7 @@ pub fn negatives<R: Ring>(alloc: Global, list: &[R]) -> Result<Vec<R>, RingFault
     ensures { GivesList R.meaning ⊤ (map R.algebra.ops.neg (map R.meaning list.now)) result }
 {
     let mut out = Vec::new(alloc);
+    let _room = out.reserve(list.len());
     for item in list {
         let negative = item.neg(alloc)?;
         out.push(negative)?;
@@ -128,6 +142,7 @@ pub fn magnitudes<R: Ring>(alloc: Global, list: &[R]) -> Result<Vec<R>, RingFaul
     ensures { GivesList R.meaning ⊤ (map R.algebra.ops.magnitude (map R.meaning list.now)) result }
 {
     let mut out = Vec::new(alloc);
+    let _room = out.reserve(list.len());
     for item in list {
         let magnitude = item.magnitude(alloc)?;
         out.push(magnitude)?;

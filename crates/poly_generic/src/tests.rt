@@ -232,3 +232,48 @@ fn products_with_powers(rt: HostRuntime) -> Result<(), RingFault> {
     assert!(rt; is_too_large(&times_power(alloc, Whole::ONE, two, 127)));
     Ok(())
 }
+
+// The polynomial of as many ones.
+fn ones(alloc: Global, count: usize) -> Result<Zn, RingFault> {
+    let mut list = Vec::new(alloc);
+    for _power in 0..count {
+        list.push(Whole::ONE)?;
+    }
+    Poly::from_coefficients(list)
+}
+
+#[test]
+fn at_most_256_coefficients(rt: HostRuntime) -> Result<(), RingFault> {
+    let alloc = rt.alloc();
+    assert_eq!(rt; ones(alloc, 256)?.degree(), Some(255));
+    assert!(rt; is_too_large(&ones(alloc, 257)));
+    let middle = ones(alloc, 129)?;
+    assert_eq!(rt; middle.mul(alloc, &ones(alloc, 128)?)?.degree(), Some(255));
+    assert!(rt; is_too_large(&middle.mul(alloc, &middle)));
+    Ok(())
+}
+
+// 2^126*n, of which each operation with a little more passes 127 bits, and with a little less doesn't.
+#[test]
+fn numbers_of_polynomials_end_below_two_to_the_127(rt: HostRuntime) -> Result<(), RingFault> {
+    let alloc = rt.alloc();
+    let half: i128 = 1 << 126;
+    let wide: Zn = numbers(alloc, &[0, half])?;
+    let less: Zn = numbers(alloc, &[0, half - 1])?;
+    let two: Whole = number(alloc, 2)?;
+    assert!(rt; is_too_large(&wide.add(alloc, &wide)));
+    assert!(rt; is_too_large(&wide.sub(alloc, &wide)));
+    assert!(rt; wide.sub(alloc, &less)?.same(&numbers(alloc, &[0, 1])?));
+    assert!(rt; is_too_large(&wide.mul(alloc, &numbers(alloc, &[2])?)));
+    assert!(rt; less.mul(alloc, &numbers(alloc, &[2])?).is_ok());
+    assert!(rt; is_too_large(&wide.eval(alloc, &two)));
+    assert_eq!(rt; less.eval(alloc, &two)?.value(), i128::MAX - 1);
+    assert!(rt; is_too_large(&wide.shift_by(alloc, 2)));
+    assert!(rt;
+        less.shift_by(alloc, 2)?
+            .same(&numbers(alloc, &[i128::MAX - 1, half - 1])?)
+    );
+    assert!(rt; is_too_large(&quotient(alloc, &wide, &numbers(alloc, &[2, 1])?)));
+    assert!(rt; quotient(alloc, &less, &numbers(alloc, &[2, 1])?)?.is_none());
+    Ok(())
+}

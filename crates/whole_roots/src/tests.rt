@@ -22,6 +22,10 @@ fn has_roots(alloc: Global, values: &[i128], roots: &[i128]) -> Result<bool, Rin
     Ok(found.as_slice() == roots)
 }
 
+fn is_too_large<T>(answer: &Result<T, RingFault>) -> bool {
+    matches!(answer, Err(RingFault::TooLarge))
+}
+
 const GREATEST: i128 = i128::MAX;
 
 const LARGE: i128 = 85070591730234615865843651857942052863;
@@ -34,7 +38,7 @@ fn whole_roots_of_known_polynomials(rt: HostRuntime) -> Result<(), RingFault> {
     assert!(rt; has_roots(alloc, &[0, 25, -10, 1], &[0, 5])?);
     assert!(rt; has_roots(alloc, &[-1000000000000, 1], &[1000000000000])?);
     assert!(rt; has_roots(alloc, &[LARGE, 1], &[-LARGE])?);
-    assert!(rt; has_roots(alloc, &[LARGE + 1, 1], &[]).is_err());
+    assert!(rt; is_too_large(&has_roots(alloc, &[LARGE + 1, 1], &[])));
     assert!(rt; has_roots(alloc, &[7], &[])?);
     assert!(rt; has_roots(alloc, &[0, 6, -5, -5, 5, -1], &[-1, 0, 1, 2, 3])?);
     Ok(())
@@ -125,6 +129,31 @@ fn linear_factors_of_known_polynomials(rt: HostRuntime) -> Result<(), RingFault>
     assert!(rt; has_factors(alloc, &[1, 5], &[])?);
     assert!(rt; has_factors(alloc, &[1, 0, 1], &[])?);
     assert!(rt; has_factors(alloc, &[-7], &[])?);
-    assert!(rt; has_factors(alloc, &[1 << 126, 1], &[]).is_err());
+    assert!(rt; is_too_large(&has_factors(alloc, &[1 << 126, 1], &[])));
+    Ok(())
+}
+
+// The coefficients of n^degree.
+fn power(alloc: Global, degree: usize) -> Result<Vec<i128>, RingFault> {
+    let mut list = Vec::new(alloc);
+    for _power in 0..degree {
+        list.push(0)?;
+    }
+    list.push(1)?;
+    Ok(list)
+}
+
+// A difference of the j-th difference of n^31 passes 127 bits, for some j; so does one of n^64.
+#[test]
+fn differences_of_high_powers_are_too_large(rt: HostRuntime) -> Result<(), RingFault> {
+    let alloc = rt.alloc();
+    let most = power(alloc, 30)?;
+    assert!(rt; has_roots(alloc, &most, &[0])?);
+    assert!(rt; has_factors(alloc, &most, &[(1, 0, 30)])?);
+    for degree in [31, 64] {
+        let high = power(alloc, degree)?;
+        assert!(rt; is_too_large(&has_roots(alloc, &high, &[0])));
+        assert!(rt; is_too_large(&has_factors(alloc, &high, &[(1, 0, 31)])));
+    }
     Ok(())
 }

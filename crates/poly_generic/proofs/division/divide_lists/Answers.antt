@@ -1,7 +1,6 @@
-use Rattle.std.proofs.Common.{◌≡◌, ◌+◌, ◌-◌, ◌∷◌, [], map, length, drop, replicate, sym, ap, ◌∙◌, subst, arith, Ok}
-use Rattle.std.proofs.lemmas.List.{length-map, length-replicate, length-append, drop_all}
-use Rattle.poly_laws.specs.LongDivision.{list_less, Divided, ReductionInBounds}
-use Rattle.ring_laws.specs.Answer.{OnFault}
+use Rattle.std.proofs.Common.{◌≡◌, ◌+◌, ◌-◌, ◌∷◌, [], map, length, drop, replicate, reverse, sym, ap, ◌∙◌, subst, arith, Ok}
+use Rattle.std.proofs.lemmas.List.{length-map, length-replicate, length-append, reverse-append, drop_all}
+use Rattle.poly_laws.specs.LongDivision.{list_less, Divided}
 use Rattle.ring_laws.specs.Division.{Divides}
 use Rattle.poly_generic.proofs.DivideAnswers.{length-less, run_on, run_begin, tops, part_not, rest_not, stuck_at, fault_divides}
 use Rattle.poly_generic.proofs.division.divide_lists.Goals as goal
@@ -18,7 +17,7 @@ loop-power-init g c =
         length-replicate (length c.args.low.now) g.D.Ring.algebra.ops.nought,
       );
       run = run_begin g.D.Ring.algebra M (map M c.args.low.now) _ _ _ _ (ap (map M) (drop_all (length c.args.list.now) c.args.list.now (omega arith)))
-          (ap (map M) c.new-quotient.ensures.items)
+          (ap (λ v. map M (reverse v)) c.reserve-room.ensures.items ∙ ap (λ v. map M (reverse v)) c.new-quotient.ensures.items)
           (c.in_ok-rest.ensures ∙ ap (λ n. replicate n g.D.Ring.algebra.ops.nought) (sym (length-map c.args.low.now M)));
     }
 
@@ -27,7 +26,7 @@ returns-in_err-part g c =
     let n : c.loop-power.power ≡ c.loop-power.power - 1 + 1 = omega (arith, c.loop-power-test.true) in
     let M = g.D.Ring.meaning in
     let run = subst (λ n. Divided g.D.Ring.algebra (map M c.args.low.now) (M c.args.lead.now) (map M (drop n c.args.list.now))
-    (map M c.loop-power.quotient.items) (map M c.loop-power.rest.items)) n c.loop-power.invariant.run in
+    (map M (reverse c.loop-power.quotient.items)) (map M c.loop-power.rest.items)) n c.loop-power.invariant.run in
     let t = tops g.D.Ring.algebra M c.in_ok-item.item c.index-list-power.result c.unwrap-top.result c.loop-power.rest.items c.insert.new.self.items
     c.pop.new.self.items c.pop.result c.in_ok-insert.ensures.items c.pop.ensures.items c.unwrap-top.ensures c.in_ok-item.ensures.gives in
     fault_divides g.D.Ring.algebra M _ _ _ _ _ _ c.from_residual-in_err-part.result c.in_err-part.field-0.0 c.from_residual-in_err-part.ensures.1
@@ -40,7 +39,7 @@ returns-in-None g c =
     let n : c.loop-power.power ≡ c.loop-power.power - 1 + 1 = omega (arith, c.loop-power-test.true) in
     let M = g.D.Ring.meaning in
     let run = subst (λ n. Divided g.D.Ring.algebra (map M c.args.low.now) (M c.args.lead.now) (map M (drop n c.args.list.now))
-    (map M c.loop-power.quotient.items) (map M c.loop-power.rest.items)) n c.loop-power.invariant.run in
+    (map M (reverse c.loop-power.quotient.items)) (map M c.loop-power.rest.items)) n c.loop-power.invariant.run in
     let t = tops g.D.Ring.algebra M c.in_ok-item.item c.index-list-power.result c.unwrap-top.result c.loop-power.rest.items c.insert.new.self.items
     c.pop.new.self.items c.pop.result c.in_ok-insert.ensures.items c.pop.ensures.items c.unwrap-top.ensures c.in_ok-item.ensures.gives in
     let h = subst (λ o. Divides M g.D.Ring.algebra (g.D.Domain.division_in_bounds (M c.unwrap-top.result) (M c.args.lead.now)) (M c.unwrap-top.result)
@@ -54,7 +53,7 @@ returns-in_err-rest-2 g c =
     let n : c.loop-power.power ≡ c.loop-power.power - 1 + 1 = omega (arith, c.loop-power-test.true) in
     let M = g.D.Ring.meaning in
     let run = subst (λ n. Divided g.D.Ring.algebra (map M c.args.low.now) (M c.args.lead.now) (map M (drop n c.args.list.now))
-    (map M c.loop-power.quotient.items) (map M c.loop-power.rest.items)) n c.loop-power.invariant.run in
+    (map M (reverse c.loop-power.quotient.items)) (map M c.loop-power.rest.items)) n c.loop-power.invariant.run in
     let t = tops g.D.Ring.algebra M c.in_ok-item.item c.index-list-power.result c.unwrap-top.result c.loop-power.rest.items c.insert.new.self.items
     c.pop.new.self.items c.pop.result c.in_ok-insert.ensures.items c.pop.ensures.items c.unwrap-top.ensures c.in_ok-item.ensures.gives in
     let h = subst (λ o. Divides M g.D.Ring.algebra (g.D.Domain.division_in_bounds (M c.unwrap-top.result) (M c.args.lead.now)) (M c.unwrap-top.result)
@@ -67,24 +66,23 @@ returns-in_err-rest-2 g c =
       g.met.D.Ring.passes c.in-Some.part,
     ) c.in_err-rest-2.field-0.0
     (omega (arith, c.loop-power.invariant.within, c.loop-power-test.true)) c.index-list-power.is run t h
-    (subst (λ v. OnFault (¬
-    (ReductionInBounds g.D.Ring.algebra (map M v) (M c.in-Some.part)
-    (map M c.args.low.now))) c.in_err-rest-2.field-0.0) c.deref.ensures.value c.in_err-rest-2.ensures))
+    c.in_err-rest-2.ensures)
 
 pub loop-power-preserved : goal.loop-power-preserved
 loop-power-preserved g c =
     let n : c.loop-power.power ≡ c.loop-power.power - 1 + 1 = omega (arith, c.loop-power-test.true) in
     let M = g.D.Ring.meaning in
     let run = subst (λ n. Divided g.D.Ring.algebra (map M c.args.low.now) (M c.args.lead.now) (map M (drop n c.args.list.now))
-    (map M c.loop-power.quotient.items) (map M c.loop-power.rest.items)) n c.loop-power.invariant.run in
+    (map M (reverse c.loop-power.quotient.items)) (map M c.loop-power.rest.items)) n c.loop-power.invariant.run in
     let t = tops g.D.Ring.algebra M c.in_ok-item.item c.index-list-power.result c.unwrap-top.result c.loop-power.rest.items c.insert.new.self.items
     c.pop.new.self.items c.pop.result c.in_ok-insert.ensures.items c.pop.ensures.items c.unwrap-top.ensures c.in_ok-item.ensures.gives in
     let h = subst (λ o. Divides M g.D.Ring.algebra (g.D.Domain.division_in_bounds (M c.unwrap-top.result) (M c.args.lead.now)) (M c.unwrap-top.result)
     (M c.args.lead.now) (Ok o)) c.in-Some.is c.in_ok-part.ensures.divides in
     let e : map M c.in_ok-rest-2.rest.items ≡ list_less g.D.Ring.algebra.ops (map M c.pop.new.self.items) (M c.in-Some.part) (map M c.args.low.now) =
-    c.in_ok-rest-2.ensures ∙ ap (λ v. list_less g.D.Ring.algebra.ops (map M v) (M c.in-Some.part) (map M c.args.low.now)) c.deref.ensures.value in
-    let q : map M c.insert-in-loop-power.new.self.items ≡ M c.in-Some.part ∷ map M c.loop-power.quotient.items =
-    ap (map M) c.in_ok-insert-2.ensures.items in
+    c.in_ok-rest-2.ensures in
+    let q : map M (reverse c.push.new.self.items) ≡ M c.in-Some.part ∷ map M (reverse c.loop-power.quotient.items) =
+    ap (λ v. map M (reverse v)) c.in_ok-push.ensures.items
+    ∙ ap (map M) (reverse-append c.loop-power.quotient.items (c.in-Some.part ∷ [])) in
     let l : length (map M c.pop.new.self.items) ≡ length (map M c.args.low.now) =
     omega (
       arith,
@@ -106,7 +104,7 @@ loop-power-preserved g c =
       );
       run =
           subst (λ v. Divided g.D.Ring.algebra (map M c.args.low.now) (M c.args.lead.now) (map M (drop (c.loop-power.power - 1) c.args.list.now))
-          (map M c.insert-in-loop-power.new.self.items) v) (sym e)
+          (map M (reverse c.push.new.self.items)) v) (sym e)
           (subst (λ v. Divided g.D.Ring.algebra (map M c.args.low.now) (M c.args.lead.now) (map M (drop (c.loop-power.power - 1) c.args.list.now)) v
           (list_less g.D.Ring.algebra.ops (map M c.pop.new.self.items) (M c.in-Some.part) (map M c.args.low.now))) (sym q)
           (run_on g.D.Ring.algebra M c.args.list.now (c.loop-power.power - 1) c.index-list-power.result _ _ (map M c.pop.new.self.items)

@@ -1,67 +1,68 @@
-use Rattle.std.proofs.Common.{◌≡◌, ◌<◌, ◌≤◌, map, length, ◌∙◌, arith}
-use Rattle.std.proofs.lemmas.List.{length-map, take_all}
-use Rattle.poly_laws.specs.Lists.{coefficient_at}
+use Rattle.std.proofs.Common.{◌≡◌, ◌<◌, ◌≤◌, map, length, ◌∙◌, arith, get_or, sym, ap, refl}
+use Rattle.std.proofs.lemmas.List.{length-map, length-set, take_all}
 use Rattle.poly_laws.specs.LongDivision.{list_less}
-use Rattle.poly_generic.proofs.AnswerLemmas.{fault_list, push_made}
-use Rattle.poly_generic.proofs.DivideAnswers.{less_at, length-less, product_not, difference_not}
-use Rattle.poly_generic.proofs.ListLemmas.{at_item}
+use Rattle.poly_generic.proofs.AnswerLemmas.{fault_list}
+use Rattle.poly_generic.proofs.DivideAnswers.{length-less, product_not, difference_not, less_more}
+use Rattle.poly_generic.proofs.Raising.{read_before, rest_kept}
 use Rattle.poly_generic.proofs.division.reduced.Goals as goal
 
 pub returns-in_err-part : goal.returns-in_err-part
 returns-in_err-part g c =
-    fault_list g.R.Ring.algebra g.R.Ring.meaning _ _ c.from_residual.result c.in_err-part.field-0.0 c.from_residual.ensures.1
-    (product_not g.R.Ring.algebra g.R.Ring.meaning (map g.R.Ring.meaning c.args.list.now)
-    (g.R.Ring.meaning c.args.factor.now) c.args.by.now c.loop-power.power c.index-by-power.result c.in_err-part.field-0.0
-    (omega (arith, c.requires.same_length, c.loop-power-test.true)) c.index-by-power.is c.in_err-part.ensures.gives)
+    let M = g.R.Ring.meaning in
+    fault_list g.R.Ring.algebra M _ _ c.from_residual.result c.in_err-part.field-0.0 c.from_residual.ensures.1
+    (product_not g.R.Ring.algebra M (map M c.args.list.items) (M c.args.factor.now) c.args.by.now c.loop-power.power c.index-by-power.result
+    c.in_err-part.field-0.0 c.loop-power-test.true c.index-by-power.is c.in_err-part.ensures.gives)
 
-pub returns-in_err-item : goal.returns-in_err-item
-returns-in_err-item g c =
-    fault_list g.R.Ring.algebra g.R.Ring.meaning _ _ c.from_residual-in_err-item.result c.in_err-item.field-0.0 c.from_residual-in_err-item.ensures.1
-    (difference_not g.R.Ring.algebra g.R.Ring.meaning c.args.list.now
-    (g.R.Ring.meaning c.args.factor.now) c.args.by.now c.loop-power.power c.index-list-power.result c.index-by-power.result
-    (g.R.Ring.meaning c.in_ok-part.part) c.in_err-item.field-0.0
-    c.loop-power-test.true
-    (omega (
-      arith,
-      c.requires.same_length,
-      c.loop-power-test.true,
-    )) c.index-list-power.is c.index-by-power.is c.in_ok-part.ensures.gives.1 c.in_err-item.ensures.gives)
+pub returns-in_err-list : goal.returns-in_err-list
+returns-in_err-list g c =
+    let M = g.R.Ring.meaning in
+    let xs = c.args.list.items in
+    let b : c.loop-power.power < length xs = omega (arith, c.requires.same_length, c.loop-power-test.true) in
+    let x : c.index.result.now ≡ get_or xs c.loop-power.power c.index.result.now =
+    read_before g.R.Ring.algebra g.met.R.Ring.laws M g.met.R.Ring.passes c.loop-power.list.items xs c.loop-power.power c.index.result.now
+    c.loop-power.invariant.rest (omega (arith, c.loop-power-test.true, c.loop-power.invariant.same_length)) b c.index.ensures in
+    fault_list g.R.Ring.algebra M _ _ c.from_residual-in_err-list.result c.in_err-list.field-0.0 c.from_residual-in_err-list.ensures.1
+    (difference_not g.R.Ring.algebra M xs (M c.args.factor.now) c.args.by.now c.loop-power.power c.index.result.now c.index-by-power.result
+    (M c.in_ok-part.part) c.in_err-list.field-0.0 b c.loop-power-test.true x c.index-by-power.is c.in_ok-part.ensures.gives.1
+    c.in_err-list.ensures.gives)
 
 pub loop-power-preserved : goal.loop-power-preserved
 loop-power-preserved g c =
-    let o = g.R.Ring.algebra.ops in
     let M = g.R.Ring.meaning in
-    let zs = list_less o (map M c.args.list.now) (M c.args.factor.now) (map M c.args.by.now) in
-    let b : c.loop-power.power < length (map M c.args.by.now) =
-    omega (arith, c.requires.same_length, c.loop-power-test.true, length-map c.args.by.now M) in
-    let d : c.loop-power.power < length (map M c.args.list.now) = omega (arith, c.loop-power-test.true, length-map c.args.list.now M) in
-    let e : length (map M c.args.list.now) ≡ length (map M c.args.by.now) =
-    omega (arith, c.requires.same_length, length-map c.args.list.now M, length-map c.args.by.now M) in
-    let p : c.loop-power.power < length c.args.by.now = omega (arith, c.requires.same_length, c.loop-power-test.true) in
-    let q : M c.in_ok-item.item ≡ coefficient_at o zs c.loop-power.power =
-    cc (
-      c.in_ok-item.ensures.gives.1,
-      c.in_ok-part.ensures.gives.1,
-      less_at o (map M c.args.list.now) (M c.args.factor.now) (map M c.args.by.now) c.loop-power.power d b,
-      at_item o M c.args.list.now c.loop-power.power c.index-list-power.result c.loop-power-test.true c.index-list-power.is,
-      at_item o M c.args.by.now c.loop-power.power c.index-by-power.result p c.index-by-power.is,
-    ) in
-    push_made g.R.Ring.algebra M zs c.loop-power.out.items c.push.new.self.items c.in_ok-item.item c.loop-power.power o.nought
-    c.in_ok-push.ensures.items c.loop-power.invariant q
-    (omega (arith, d, length-less o (map M c.args.list.now) (M c.args.factor.now) (map M c.args.by.now) e))
+    let xs = c.args.list.items in
+    let i = c.loop-power.power in
+    let b : i < length xs = omega (arith, c.requires.same_length, c.loop-power-test.true) in
+    let d : i < length c.loop-power.list.items = omega (arith, c.loop-power-test.true, c.loop-power.invariant.same_length) in
+    let x : c.index.result.now ≡ get_or xs i c.index.result.now =
+    read_before g.R.Ring.algebra g.met.R.Ring.laws M g.met.R.Ring.passes c.loop-power.list.items xs i c.index.result.now
+    c.loop-power.invariant.rest d b c.index.ensures in
+    record {
+      same_length = length-set c.loop-power.list.items i c.in_ok-list.field-0 ∙ c.loop-power.invariant.same_length;
+      rest = rest_kept g.R.Ring.algebra g.met.R.Ring.laws M g.met.R.Ring.passes c.loop-power.list.items xs i c.in_ok-list.field-0
+          c.loop-power.invariant.rest d b;
+      made = less_more g.R.Ring.algebra M xs (M c.args.factor.now) c.args.by.now c.loop-power.list.items _ i c.index.result.now
+          c.index-by-power.result c.in_ok-list.field-0 (M c.in_ok-part.part) c.requires.same_length c.loop-power-test.true d x c.index-by-power.is
+          c.in_ok-part.ensures.gives.1 c.in_ok-list.ensures.gives.1 refl c.loop-power.invariant.made;
+    }
 
 pub returns : goal.returns
 returns g c =
     let o = g.R.Ring.algebra.ops in
     let M = g.R.Ring.meaning in
-    let zs = list_less o (map M c.args.list.now) (M c.args.factor.now) (map M c.args.by.now) in
-    let e : length (map M c.args.list.now) ≡ length (map M c.args.by.now) =
-    omega (arith, c.requires.same_length, length-map c.args.list.now M, length-map c.args.by.now M) in
+    let zs = list_less o (map M c.args.list.items) (M c.args.factor.now) (map M c.args.by.now) in
+    let e : length (map M c.args.list.items) ≡ length (map M c.args.by.now) =
+    omega (arith, c.requires.same_length, length-map c.args.list.items M, length-map c.args.by.now M) in
     let n : length zs ≤ c.loop-power.power =
     omega (
       arith,
       c.loop-power-test.false,
-      length-map c.args.list.now M,
-      length-less o (map M c.args.list.now) (M c.args.factor.now) (map M c.args.by.now) e,
+      c.requires.same_length,
+      length-map c.args.list.items M,
+      length-less o (map M c.args.list.items) (M c.args.factor.now) (map M c.args.by.now) e,
     ) in
-    c.loop-power.invariant ∙ take_all c.loop-power.power zs n
+    ap (map M) (sym (take_all c.loop-power.power c.loop-power.list.items (omega (
+      arith,
+      c.loop-power-test.false,
+      c.loop-power.invariant.same_length,
+    ))))
+    ∙ c.loop-power.invariant.made ∙ take_all c.loop-power.power zs n

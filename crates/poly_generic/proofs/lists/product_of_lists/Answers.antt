@@ -1,31 +1,78 @@
-use Rattle.std.proofs.Common.{map, drop, ap, arith, ◌≡◌, ◌+◌, ◌-◌, ◌∷◌, ◌∙◌}
-use Rattle.poly_laws.specs.Bounds.{ListSumInBounds}
-use Rattle.poly_laws.specs.Lists.{list_product}
-use Rattle.ring_laws.specs.Answer.{OnFault}
-use Rattle.poly_generic.proofs.AnswerLemmas.{fault_list}
-use Rattle.poly_generic.proofs.PolyAnswers.{two}
-use Rattle.poly_generic.proofs.ProductSteps.{row_fault, step_fault}
+use Rattle.std.proofs.Common.{◌≡◌, ◌<◌, ◌≤◌, ◌+◌, ◌-◌, ◌∙◌, map, length, take, ap, arith}
+use Rattle.std.proofs.lemmas.List.{length-map, take_all}
+use Rattle.poly_laws.specs.Lists.{coefficient_at, list_product}
+use Rattle.poly_generic.proofs.AnswerLemmas.{push_made}
+use Rattle.poly_generic.proofs.Convolution.{length-of_product}
 use Rattle.poly_generic.proofs.lists.product_of_lists.Goals as goal
 
-pub returns-in_err-row : goal.returns-in_err-row
-returns-in_err-row g c =
-    fault_list g.R.Ring.algebra g.R.Ring.meaning _ _ c.from_residual.result c.in_err-row.field-0.0 c.from_residual.ensures.1
-    (row_fault g.R.Ring.algebra g.met.R.Ring.laws g.R.Ring.meaning g.met.R.Ring.passes g.met.R.Ring.fits c.args.a.now c.args.b.now
-    (c.loop-power.power - 1) c.index-a-power.result c.in_err-row.field-0.0
-    (omega (arith, c.loop-power.invariant.within, c.loop-power-test.true)) c.index-a-power.is c.in_err-row.ensures)
+-- one coefficient more, where the second list begins
+pub loop-last-preserved : goal.loop-last-preserved
+loop-last-preserved g c =
+    let o = g.R.Ring.algebra.ops in
+    let M = g.R.Ring.meaning in
+    let xs = map M c.args.a.now in
+    let ys = map M c.args.b.now in
+    let zs = list_product o xs ys in
+    let i = c.loop-last.last in
+    let n : i + 0 ≡ i = omega arith in
+    let b : i < length zs =
+    omega (
+      arith,
+      c.loop-last-test.true,
+      length-map c.args.a.now M,
+      length-of_product o xs ys (omega (
+        arith,
+        c.loop-last-test.true,
+        length-map c.args.a.now M,
+      )),
+    ) in
+    push_made g.R.Ring.algebra M zs c.loop-last.out.items c.push.new.self.items c.in_ok-item.item i o.nought c.in_ok-push.ensures.items
+    c.loop-last.invariant (c.in_ok-item.ensures ∙ ap (coefficient_at o zs) n) b
 
-pub returns-in_err-out : goal.returns-in_err-out
-returns-in_err-out g c =
-    let n : c.loop-power.power ≡ c.loop-power.power - 1 + 1 = omega (arith, c.loop-power-test.true) in
-    let e : map g.R.Ring.meaning c.in_ok-rest.rest.items ≡ g.R.Ring.algebra.ops.nought ∷ list_product g.R.Ring.algebra.ops
-    (map g.R.Ring.meaning (drop (c.loop-power.power - 1 + 1) c.args.a.now)) (map g.R.Ring.meaning c.args.b.now) =
-    c.in_ok-rest.ensures ∙ ap (λ t. g.R.Ring.algebra.ops.nought ∷ t) (c.loop-power.invariant.made
-    ∙ ap (λ k. list_product g.R.Ring.algebra.ops (map g.R.Ring.meaning (drop k c.args.a.now)) (map g.R.Ring.meaning c.args.b.now)) n) in
-    fault_list g.R.Ring.algebra g.R.Ring.meaning _ _ c.from_residual-in_err-out.result c.in_err-out.field-0.0 c.from_residual-in_err-out.ensures.1
-    (step_fault g.R.Ring.algebra g.met.R.Ring.laws g.R.Ring.meaning g.met.R.Ring.passes g.met.R.Ring.fits c.args.a.now c.args.b.now
-    (c.loop-power.power - 1) c.index-a-power.result
-    (map g.R.Ring.meaning c.in_ok-row.row.items) (map g.R.Ring.meaning c.in_ok-rest.rest.items) c.in_err-out.field-0.0
-    (omega (arith, c.loop-power.invariant.within, c.loop-power-test.true)) c.index-a-power.is c.in_ok-row.ensures e
-    (two (λ s t. OnFault (¬
-    (ListSumInBounds g.R.Ring.algebra (map g.R.Ring.meaning s)
-    (map g.R.Ring.meaning t))) c.in_err-out.field-0.0) _ _ _ _ c.deref.ensures.value c.deref-in-loop-power.ensures.value c.in_err-out.ensures))
+-- one coefficient more, where the first list ends
+pub loop-first-preserved : goal.loop-first-preserved
+loop-first-preserved g c =
+    let o = g.R.Ring.algebra.ops in
+    let M = g.R.Ring.meaning in
+    let xs = map M c.args.a.now in
+    let ys = map M c.args.b.now in
+    let zs = list_product o xs ys in
+    let i = length c.args.a.now - 1 + c.loop-first.first in
+    let some : 0 < length xs = grind (arith, c.if-is_empty.false, c.is_empty.ensures, length-map c.args.a.now M) in
+    let b : i < length zs =
+    omega (
+      arith,
+      c.loop-first-test.true,
+      length-map c.args.a.now M,
+      length-map c.args.b.now M,
+      length-of_product o xs ys some,
+    ) in
+    let n : i + 1 ≡ length c.args.a.now - 1 + (c.loop-first.first + 1) = omega arith in
+    record {
+      from_one = omega (arith, c.loop-first.invariant.from_one);
+      made =
+          push_made g.R.Ring.algebra M zs c.loop-first.out.items c.push-in-loop-first.new.self.items c.in_ok-item-2.item i o.nought
+          c.in_ok-push-2.ensures.items c.loop-first.invariant.made c.in_ok-item-2.ensures b
+          ∙ ap (λ k. take k zs) n;
+    }
+
+-- there are no more
+pub returns : goal.returns
+returns g c =
+    let o = g.R.Ring.algebra.ops in
+    let M = g.R.Ring.meaning in
+    let xs = map M c.args.a.now in
+    let ys = map M c.args.b.now in
+    let zs = list_product o xs ys in
+    let i = length c.args.a.now - 1 + c.loop-first.first in
+    let some : 0 < length xs = grind (arith, c.if-is_empty.false, c.is_empty.ensures, length-map c.args.a.now M) in
+    let b : length zs ≤ i =
+    omega (
+      arith,
+      c.loop-first-test.false,
+      c.loop-first.invariant.from_one,
+      length-map c.args.a.now M,
+      length-map c.args.b.now M,
+      length-of_product o xs ys some,
+    ) in
+    c.loop-first.invariant.made ∙ take_all i zs b
