@@ -40,9 +40,10 @@ pub fn main<R: Env + AllocGlobal, S: Source, O: Sink, E: Sink>(
         input.old input.new out.old out.new err.old err.new)
         ⊎ HasNoWords E.written E.faults status input.old input.new out.old out.new err.old err.new) }
 {
-    let status = match words_of(rt) {
-        Ok(words) => run(rt.alloc(), &words, input, out, err),
-        Err(_) => refuse(rt.alloc(), Refusal::Memory, err),
+    let Ok(words) = words_of(rt) else {
+        let status = refuse(rt.alloc(), Refusal::Memory, err);
+        return ExitCode::from(status.code());
     };
+    let status = run(rt.alloc(), &words, input, out, err);
     ExitCode::from(status.code())
 }

@@ -3,7 +3,7 @@ use Rattle.std.proofs.Common.{◌≢◌, ℕ, zero, suc, ◌≤◌, refl, ap, sy
 use Rattle.std.proofs.lemmas.Int.{ints}
 use Rattle.std.specs.Prelude.{ℤ, pos, negsuc, ◌*ℤ◌, ◌≤ℤ◌}
 use Rattle.std.specs.List.{AllByRecursion}
-use Rattle.hypergeometric.specs.Point.{Point, values}
+use Rattle.hypergeometric.specs.Point.{Point}
 use Rattle.hypergeometric.specs.Fraction.{Fraction, IsDefined, of_whole, fraction_product, fraction_inverse, natural_power, whole_power}
 use Rattle.hypergeometric.specs.LinearForm.{LinearForm, Factor, form_value, factorial_value, inverse_factorial_value, product_over}
 use Rattle.hypergeometric.specs.ProperTerm.{ProperTerm, NoneNegative, NoneZero, poly_value, proper_value}

@@ -11,13 +11,13 @@ use Rattle.ring_solver.proofs.Linear.{from1, from2}
 use Rattle.ring_solver.proofs.Read.{ring_z, reading_z}
 use Rattle.ring_laws.specs.WholeDomain.{abs_nought}
 use Rattle.ring_laws.proofs.Quotients.{abs_rem}
-use Rattle.hypergeometric.specs.Fraction.{Fraction, IsDefined, fraction_product, natural_power, whole_power}
+use Rattle.hypergeometric.specs.Fraction.{Fraction, IsDefined, fraction_product, reciprocal, natural_power, whole_power}
 use Rattle.hypergeometric.specs.ProperTerm.{IsNonzero}
 use Rattle.hypergeometric.specs.Divisors.{divides, greatest_common_divisor, negated_where, lowest_terms, raised_fraction}
 use Rattle.hypergeometric.proofs.GreatestDivisors.{greatest_is_gcd}
 use Rattle.hypergeometric.proofs.SameValues.{◌≅◌, same, same_chain, same_symmetric, same_natural_powers, zero_times}
 use Rattle.hypergeometric.proofs.FractionPowers.{fraction_with, fraction_same}
-use Rattle.hypergeometric.proofs.NonzeroPowers.{reciprocal, reciprocal_nonzero, natural_power_nonzero, inverse_is_reciprocal}
+use Rattle.hypergeometric.proofs.NonzeroPowers.{reciprocal_nonzero, natural_power_nonzero, inverse_is_reciprocal}
 
 -- a divisor times the quotient by it is the number
 pub exact_quotient : (z : ℤ) (g : ℤ) → unsigned_abs g ∣ unsigned_abs z → int_div z g *ℤ g ≡ z

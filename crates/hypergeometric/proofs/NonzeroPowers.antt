@@ -4,11 +4,11 @@ use Rattle.std.proofs.lemmas.Int.{ints}
 use Rattle.std.specs.Prelude.{ℤ, pos, negsuc, ◌+ℤ◌, ◌*ℤ◌, neg_ℤ}
 use Rattle.ring_solver.proofs.Linear.{product_zero}
 use Rattle.ring_solver.proofs.Read.{ring_z, reading_z}
-use Rattle.hypergeometric.specs.Fraction.{Fraction, of_whole, fraction_product, fraction_inverse, natural_power, whole_power}
+use Rattle.hypergeometric.specs.Fraction.{Fraction, of_whole, fraction_product, reciprocal, fraction_inverse, natural_power, whole_power}
 use Rattle.hypergeometric.specs.ProperTerm.{IsNonzero}
 use Rattle.hypergeometric.proofs.FractionLaws.{one_not_zero, product_not_zero}
 use Rattle.hypergeometric.proofs.SameValues.{◌≅◌, same, same_itself, same_chain, same_symmetric, same_products, same_natural_powers}
-use Rattle.hypergeometric.proofs.FractionPowers.{fraction_with, product_comm, product_assoc, one_product, product_one, negated_power, natural_then_whole, negative_then_natural, negative_then_negative}
+use Rattle.hypergeometric.proofs.FractionPowers.{product_comm, product_assoc, one_product, product_one, negated_power, natural_then_whole, negative_then_natural, negative_then_negative}
 
 pub product_nonzero : (f g : Fraction) → IsNonzero f → IsNonzero g → IsNonzero (fraction_product f g)
 product_nonzero f g p q = record {
@@ -31,9 +31,6 @@ whole_power_nonzero f (pos n) p = natural_power_nonzero f n p
 whole_power_nonzero f (negsuc n) p = natural_power_nonzero (fraction_inverse f) (suc n) (inverse_nonzero f p)
 
 -- numerator and denominator change places
-abbrev pub reciprocal : Fraction → Fraction
-reciprocal f = fraction_with f.bottom f.top
-
 pub reciprocal_nonzero : (f : Fraction) → IsNonzero f → IsNonzero (reciprocal f)
 reciprocal_nonzero f p = record { top = p.bottom; bottom = p.top }
 

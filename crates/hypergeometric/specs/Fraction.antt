@@ -46,6 +46,10 @@ fraction_difference f g = fraction_sum f (fraction_negative g)
 abbrev pub fraction_product : Fraction → Fraction → Fraction
 fraction_product f g = record { top = f.top *ℤ g.top; bottom = f.bottom *ℤ g.bottom }
 
+-- the bottom over the top; for a fraction other than 0, its inverse
+abbrev pub reciprocal : Fraction → Fraction
+reciprocal f = record { top = f.bottom; bottom = f.top }
+
 -- not defined for 0, nor for what is not defined
 abbrev pub fraction_inverse : Fraction → Fraction
 fraction_inverse f = record { top = f.bottom *ℤ f.bottom; bottom = f.top *ℤ f.bottom }

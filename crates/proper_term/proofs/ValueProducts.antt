@@ -3,14 +3,14 @@ use Rattle.std.proofs.Common.{◌≡◌, ◌≢◌, ℕ, zero, suc, refl, ap, sy
 use Rattle.std.specs.Prelude.{ℤ, pos, negsuc, ◌*ℤ◌, replicate}
 use Rattle.ring_solver.proofs.Read.{ring_z, reading_z}
 use Rattle.hypergeometric.specs.Point.{Point}
-use Rattle.hypergeometric.specs.Fraction.{Fraction, IsDefined, ◌≈◌, of_whole, fraction_product, fraction_inverse, natural_power, whole_power}
+use Rattle.hypergeometric.specs.Fraction.{Fraction, IsDefined, ◌≈◌, of_whole, fraction_product, reciprocal, fraction_inverse, natural_power, whole_power}
 use Rattle.hypergeometric.specs.LinearForm.{Factor, form_value, factorial_value, inverse_factorial_value, product_over}
 use Rattle.hypergeometric.specs.ProperTerm.{ProperTerm, NoneNegative, NoneZero, IsDefinedAt, IsNonzero, HasFractions, poly_value, proper_value}
 use Rattle.hypergeometric.proofs.Definedness.{natural_power_defined, proper_value_defined}
 use Rattle.hypergeometric.proofs.FractionLaws.{one_not_zero, product_not_zero, equal_to_itself, equal_symmetric, equal_chain, equal_products}
 use Rattle.hypergeometric.proofs.DefinedValues.{left_defined, right_defined}
 use Rattle.proper_term.specs.Runs.{product_of}
-use Rattle.proper_term.specs.ValueBounds.{turned, base_power, divisors, factorial_factors, value_factors}
+use Rattle.proper_term.specs.ValueBounds.{base_power, divisors, factorial_factors, value_factors}
 use Rattle.proper_term.proofs.Runs.{grouped, one_before}
 use Rattle.proper_term.proofs.FactorialProducts.{factorials_kept}
 
@@ -31,8 +31,8 @@ equal_powers : (f g : Fraction) (p : ℕ) → f ≈ g → natural_power f p ≈ 
 equal_powers f g zero e = equal_to_itself (of_whole (pos 1)) one_not_zero
 equal_powers f g (suc p) e = equal_products e (equal_powers f g p e)
 
-inverse_symmetric : (f : Fraction) → IsNonzero f → turned f ≈ fraction_inverse f
-inverse_symmetric f h = record {
+reciprocal_is_inverse : (f : Fraction) → IsNonzero f → reciprocal f ≈ fraction_inverse f
+reciprocal_is_inverse f h = record {
   left_defined = h.top;
   right_defined = product_not_zero f.top f.bottom h.top h.bottom;
   cross = cross f.top f.bottom;
@@ -44,7 +44,7 @@ inverse_symmetric f h = record {
 -- a power of a base
 pub power_kept : (f : Fraction) (z : ℤ) → IsNonzero f → base_power f z ≈ whole_power f z
 power_kept f (pos n) h = equal_to_itself (natural_power f n) (natural_power_defined f n h.bottom)
-power_kept f (negsuc n) h = equal_powers (turned f) (fraction_inverse f) (suc n) (inverse_symmetric f h)
+power_kept f (negsuc n) h = equal_powers (reciprocal f) (fraction_inverse f) (suc n) (reciprocal_is_inverse f h)
 
 one_over : (z : ℤ) → z ≢ pos 0 → record { top = pos 1; bottom = z } ≈ fraction_inverse (of_whole z)
 one_over z h = record { left_defined = h; right_defined = product_not_zero z (pos 1) h one_not_zero; cross = cross z }

@@ -7,14 +7,14 @@ use Rattle.ring_laws.specs.Answer.{OnFault, fault_weaker}
 use Rattle.ring_laws.specs.declared.faults.RingFault.{RingFault}
 use Rattle.poly_fraction.specs.Fractions.{RingFraction}
 use Rattle.hypergeometric.specs.Point.{Point}
-use Rattle.hypergeometric.specs.Fraction.{Fraction, ◌≈◌, fraction_product, natural_power}
+use Rattle.hypergeometric.specs.Fraction.{Fraction, ◌≈◌, fraction_product, reciprocal, natural_power}
 use Rattle.hypergeometric.specs.ProperTerm.{ProperTerm, IsDefinedAt, NoneNegative, IsNonzero, HasFractions, proper_value}
 use Rattle.hypergeometric.specs.TermFacts.{IsLowest, IsProper}
 use Rattle.hypergeometric.proofs.FractionLaws.{product_not_zero, equal_chain, pow_not_zero}
 use Rattle.proper_term.specs.Cancelled.{arguments_at, left_over}
 use Rattle.proper_term.specs.Fields.{number_fraction_of}
 use Rattle.proper_term.specs.Runs.{IsInLowestTerms, Runs, GivesRun, product_of}
-use Rattle.proper_term.specs.ValueBounds.{turned, base_power, factorial_factors, value_factors, IsRunInBounds}
+use Rattle.proper_term.specs.ValueBounds.{base_power, factorial_factors, value_factors, IsRunInBounds}
 use Rattle.proper_term.proofs.CancelledFactorials.{left_over_positive}
 use Rattle.proper_term.proofs.PowerFractions.{power_parts}
 use Rattle.proper_term.proofs.Runs.{runs_join, bounds_after, run_value, run_lowest}
@@ -42,7 +42,7 @@ natural_power_top f e some = λ z. pow_not_zero f.top e some (sym (ap (λ (x : F
 
 pub base_power_top : (f : Fraction) (z : ℤ) → IsNonzero f → (base_power f z).top ≢ pos 0
 base_power_top f (pos n) h = natural_power_top f n h.top
-base_power_top f (negsuc n) h = natural_power_top (turned f) (suc n) h.bottom
+base_power_top f (negsuc n) h = natural_power_top (reciprocal f) (suc n) h.bottom
 
 positive_not_zero : (b : ℤ) → pos 0 <ℤ b → b ≢ pos 0
 positive_not_zero b h e = omega (arith, ints, h, e)

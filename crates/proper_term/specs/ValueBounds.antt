@@ -3,7 +3,7 @@ use Rattle.std.specs.Prelude.{ℕ, ◌+◌, ◌*◌, ◌^◌, ◌<◌, ℤ, pos,
 use Rattle.ring_laws.specs.Meaning.{Meaning, items}
 use Rattle.ring_laws.specs.Wholes.{number_of}
 use Rattle.hypergeometric.specs.Point.{Point}
-use Rattle.hypergeometric.specs.Fraction.{Fraction, of_whole, natural_power}
+use Rattle.hypergeometric.specs.Fraction.{Fraction, of_whole, reciprocal, natural_power}
 use Rattle.hypergeometric.specs.LinearForm.{Factor, form_value}
 use Rattle.hypergeometric.specs.ProperTerm.{ProperTerm, poly_value, IsDefinedAt, NoneNegative}
 use Rattle.proper_term.specs.Cancelled.{arguments_at, left_over, quotients}
@@ -22,14 +22,10 @@ size_in_n p poly = sizes (λ z. unsigned_abs (number_of z)) (unsigned_abs p.n) (
 abbrev pub size_at : Point → Meaning → ℕ
 size_at p poly = sizes (size_in_n p) (unsigned_abs p.k) (items poly)
 
--- the reciprocal of a fraction other than 0
-abbrev pub turned : Fraction → Fraction
-turned f = record { top = f.bottom; bottom = f.top }
-
 -- a power of a fraction other than 0
 abbrev pub base_power : Fraction → ℤ → Fraction
 base_power f (pos n) = natural_power f n
-base_power f (negsuc n) = natural_power (turned f) (suc n)
+base_power f (negsuc n) = natural_power (reciprocal f) (suc n)
 
 -- one over the value of each form, as often as its power says
 abbrev pub divisors : List Factor → Point → List Fraction

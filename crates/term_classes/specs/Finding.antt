@@ -1,4 +1,4 @@
--- The polynomial and the constant that a tree stands for, as they are sought: its parts in the order of the text, the exponent of a power
+-- The polynomial and the constant that a tree stands for, as they are found: its parts in the order of the text, the exponent of a power
 -- before its base. The first that has none, or passes the limit of a constant exponent, decides.
 use Rattle.std.specs.Prelude.{ℕ, ◌*◌, Bool, true, false, ◌&&◌, ◌||◌, if◌then◌else◌, ℤ, pos, negsuc, unsigned_abs, List, [], ◌∷◌, Option, Some, None}
 use Rattle.ring_laws.specs.Meaning.{Meaning, items}
