@@ -7,7 +7,7 @@ use Rattle.std.proofs.lemmas.List.{get_or-map, length-map, map-append, length-ap
 use Rattle.std.proofs.Math.Seq.{get_or-append_seam}
 use Rattle.std.proofs.lemmas.List.Elements.{All-nil, All-cons, All-push, All-get_or, Contains-push, Contains-append_left}
 use Rattle.ring_laws.specs.Meaning.{Meaning}
-use Rattle.ring_laws.specs.Algebra.{Ops, Algebra, Passing, within, Laws}
+use Rattle.ring_laws.specs.Algebra.{Ops, Algebra, Passing, within, Laws, same_passing}
 use Rattle.ring_laws.specs.Division.{DomainLaws}
 use Rattle.kernel_laws.specs.Rows.{entry_at, InKernel}
 use Rattle.kernel_laws.specs.Kernels.{EndsAt, combined}
@@ -15,8 +15,9 @@ use Rattle.kernel_laws.specs.Pivots.{IsPivotColumn}
 use Rattle.kernel_laws.specs.Reduction.{Reduction, ReductionLaws, bare}
 use Rattle.kernel_laws.specs.Elimination.{Run}
 use Rattle.kernel_laws.specs.BackSubstitution.{BackRun, FreeVectors, none, pivot, free}
-use Rattle.kernel_laws.specs.Answers.{Vector, meant, NoneEnds, Combination, Basis}
+use Rattle.kernel_laws.specs.Answers.{Vector, meant, NoneEnds, Combination, AreIndependent, Basis}
 use Rattle.kernel_laws.proofs.Kernels.{first_of, rest_of, weaker}
+use Rattle.kernel_laws.proofs.Independence.{independent}
 use Rattle.kernel_laws.proofs.Spanning.{vector_at, Each, spans}
 use Rattle.kernel_laws.proofs.Belonging.{bare_at, length-bare, kernel_down, kernel_up, ends_down, not_meaning}
 use Rattle.kernel_laws.proofs.ClearedRows.{domain}
@@ -187,6 +188,16 @@ module _ (a : Algebra) (l : Laws a) (dl : DomainLaws a) (r : Reduction) (rl : Re
               ∙ ap (λ ms. combined a.ops (meant a s.by) (map (entry_at a.ops) ms) k) w.mades_are;
         }
 
+    -- they end at rising columns
+    are_independent : AreIndependent a n vectors
+    are_independent by z i b =
+        ap (λ (x : Passing a). x.0)
+        (independent W l.ring (domain a l dl n) n functions frees
+        (zip_map (entry_at W) EndsHere (EndsAt W n) (λ v j e. e) w.mades frees w.ends) w.rising by
+        (λ k c. same_passing a (combined W by functions k) W.nought (combined_down w.mades by k
+        ∙ ap (λ ms. combined a.ops (meant a by) (map (entry_at a.ops) ms) k) w.mades_are ∙ z k c)) i
+        (omega (arith, b, ap length w.mades_are, length-map w.mades (bare a), length-map w.mades (entry_at W))))
+
     pub basis : Basis a n (map (bare a) rows) vectors
     basis = record {
       sizes = subst (All (λ v. length v ≡ n)) w.mades_are
@@ -201,4 +212,5 @@ module _ (a : Algebra) (l : Laws a) (dl : DomainLaws a) (r : Reduction) (rl : Re
           (λ x j e. ends_down a l.closed n (entry_at W x) (entry_at a.ops (bare a x)) j (bare_at a l.closed n x) e) w.mades frees w.ends);
       others = others;
       spans = spanned;
+      independent = are_independent;
     }

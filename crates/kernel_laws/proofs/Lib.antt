@@ -2,6 +2,7 @@ pub mod Totals
 pub mod Kernels
 pub mod Echelon
 pub mod Spanning
+pub mod Independence
 pub mod RowSteps
 pub mod Stairs
 pub mod BackSteps
