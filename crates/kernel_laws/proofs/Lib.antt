@@ -17,6 +17,7 @@ pub mod FrontRuns
 pub mod Absorbing
 pub mod BackRuns
 pub mod Vectors
+pub mod FreeColumns
 pub mod Bases
 pub mod TimesInBounds
 pub mod RunSizes

@@ -1,5 +1,5 @@
 -- What elimination answers of the kernel. Its vectors have entries of any size: all meanings that belong to the ring.
-use Rattle.std.specs.Prelude.{◌≡◌, ℕ, suc, ◌<◌, ◌≤◌, List, map, length, All}
+use Rattle.std.specs.Prelude.{◌≡◌, ◌≢◌, ℕ, suc, ◌<◌, ◌≤◌, List, map, length, All}
 use Rattle.std.specs.List.{AllZip, Contains}
 use Rattle.std.specs.List.Sorted.{IsStrictlyIncreasing}
 use Rattle.ring_laws.specs.Meaning.{Meaning}
@@ -56,6 +56,8 @@ pub record Basis (a : Algebra) (columns : ℕ) (rows : List (List Meaning)) (vec
   pub rising : IsStrictlyIncreasing frees
   pub ends : AllZip (λ v j. EndsAt a.ops columns (entry_at a.ops v) j) vectors frees
   pub others : (j : ℕ) → ¬ (Contains frees j) → NoneEnds a columns rows j
+  -- each vector is zero at the columns at which the others end
+  pub apart : AllZip (λ v j. (k : ℕ) → Contains frees k → k ≢ j → entry_at a.ops v k ≡ a.ops.nought) vectors frees
   pub spans : (w : Vector a) → InKernel a.ops columns rows (meant a w) → Combination a columns vectors w
   pub independent : AreIndependent a columns vectors
 

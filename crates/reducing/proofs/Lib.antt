@@ -1,4 +1,5 @@
 mod Divisors
+mod DividedInPlace
 mod WholeRows
 mod Polynomials
 mod LeastEntries
