@@ -1,5 +1,5 @@
 -- A row of numbers that is divided in its place: the numbers before the place are quotients, the others are as they were.
-use Rattle.std.proofs.Common.{◌≡◌, ℕ, zero, suc, ◌+◌, ◌<◌, ◌≤◌, ℤ, pos, ◌*ℤ◌, unsigned_abs, List, [], ◌∷◌, map, length, get_or, Option, Some, None, MatchOption, refl, sym, ap, ◌∙◌, subst, arith, int_div}
+use Rattle.std.proofs.Common.{◌≡◌, ℕ, zero, suc, ◌+◌, ◌<◌, ◌≤◌, ℤ, ◌*ℤ◌, unsigned_abs, List, [], ◌∷◌, map, length, get_or, Option, Some, None, MatchOption, refl, sym, ap, ◌∙◌, subst, arith, int_div}
 use Rattle.std.proofs.Math.ListN.{set}
 use Rattle.std.specs.Option.{IsSome}
 use Rattle.std.specs.Int.{◌∣◌}

@@ -1,13 +1,11 @@
 -- Divisors of numbers below 2^127, and the quotients of a row.
-use Rattle.std.proofs.Common.{◌≡◌, ◌≢◌, ℕ, zero, suc, ◌+◌, ◌<◌, ◌≤◌, ◌^◌, ℤ, pos, ◌*ℤ◌, unsigned_abs, List, [], ◌∷◌, map, drop, length, get_or, Option, Some, None, MatchOption, refl, sym, ap, ◌∙◌, subst, arith, Ok, int_div, int_rem}
+use Rattle.std.proofs.Common.{◌≡◌, ◌≢◌, ℕ, zero, suc, ◌+◌, ◌<◌, ◌≤◌, ◌^◌, ℤ, pos, ◌*ℤ◌, unsigned_abs, List, [], ◌∷◌, map, drop, length, get_or, Option, Some, None, MatchOption, refl, sym, ap, ◌∙◌, subst, arith, int_div, int_rem}
 use Rattle.std.specs.Option.{IsSome}
 use Rattle.std.specs.Int.{◌∣◌, IsGcd}
 use Rattle.std.proofs.lemmas.Int.{ints, quot-rem}
 use Rattle.std.proofs.lemmas.Nat.Gcd.{le_of_dvd, dvd-zero, mod-eq-zero_of_dvd}
 use Rattle.std.proofs.lemmas.List.{length-map, drop_more, get_or-map}
 use Rattle.std.proofs.Math.Nat.{eq-zero_of_zero-dvd}
-use Rattle.ring_laws.specs.Meaning.{number}
-use Rattle.ring_laws.specs.Wholes.{whole_algebra}
 use Rattle.ring_laws.specs.WholeDomain.{abs_nought}
 use Rattle.ring_laws.proofs.Quotients.{abs_rem}
 use Rattle.poly_divide.specs.Content.{DividesAll, IsContent}

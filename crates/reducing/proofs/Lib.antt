@@ -19,3 +19,4 @@ pub mod CommonNumbers
 pub mod ZeroRows
 pub mod Constants
 pub mod ReducedVectors
+pub mod WholeVectors

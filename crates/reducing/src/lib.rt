@@ -16,7 +16,9 @@ mod row_contents;
 mod whole_rows;
 
 pub use domains::Reducing;
-pub use laws::{no_content_is_left, no_form_is_left, vectors_have_nothing_common};
+pub use laws::{
+    no_content_is_left, no_form_is_left, vectors_have_nothing_common, whole_vectors_are_primitive,
+};
 
 #[cfg(test)]
 mod tests;

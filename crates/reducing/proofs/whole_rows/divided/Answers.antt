@@ -1,4 +1,4 @@
-use Rattle.std.proofs.Common.{refl, arith, sym, ◌∙◌}
+use Rattle.std.proofs.Common.{refl, arith}
 use Rattle.reducing.proofs.DividedInPlace.{begun, same_length, some_quotient, next_divided, all_divided}
 use Rattle.reducing.proofs.whole_rows.divided.Goals as goal
 
