@@ -3,6 +3,7 @@ mod DividedInPlace
 mod WholeRows
 mod Polynomials
 mod LeastEntries
+pub mod RowDivisions
 mod RowQuotients
 mod ContentQuotients
 mod WithoutFactor

@@ -68,6 +68,10 @@ impl Reducing for Whole {
         0
     }
 
+    fn is_one(&self) -> bool {
+        self.value() == 1
+    }
+
     // Never `TooLarge`, and no memory is wanted: the row is divided in its place.
     fn reduce_row(_alloc: Global, row: Vec<Whole>) -> Result<Vec<Whole>, RingFault>
         ensures reduces { GivesRow (λ whole. number whole.value) (WholeReduced (map (λ whole. number whole.value) row.items)) ⊤ result }
@@ -95,5 +99,13 @@ impl Reducing for Whole {
         ensures always { IsOk result }
     {
         Whole::one(alloc)
+    }
+    fn plain_part(&self, _alloc: Global, _core: &Whole) -> Result<Whole, RingFault>
+        requires not_zero { IsFalse (is_zero self.now.value) }
+        requires core { IsCoreBy whole_reduction (number self.now.value) (number _core.now.value) }
+        ensures plain { GivesPart (λ whole. number whole.value) (λ plain. WholeSplit (number self.now.value) plain (number _core.now.value)) ⊤ result }
+        ensures always { IsOk result }
+    {
+        Ok(*self)
     }
 }
