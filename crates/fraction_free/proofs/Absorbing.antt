@@ -1,7 +1,7 @@
 -- A number divided where that can be, and else the vector multiplied, from what the calls answer.
 use Rattle.std.proofs.Common.{◌≡◌, IsTrue, List, map, sym, ap, ◌∙◌, subst, Result, Ok, Err, IsErrAnd}
 use Rattle.ring_laws.specs.Meaning.{Meaning}
-use Rattle.ring_laws.specs.Algebra.{Algebra, Passing}
+use Rattle.ring_laws.specs.Algebra.{Algebra, Passing, Laws}
 use Rattle.ring_laws.specs.Answer.{OnFault, fault_weaker}
 use Rattle.ring_laws.specs.declared.faults.RingFault.{RingFault}
 use Rattle.poly_laws.specs.Bounds.{ScalingInBounds}
@@ -9,6 +9,7 @@ use Rattle.kernel_laws.specs.RowSteps.{HasQuotient}
 use Rattle.kernel_laws.specs.BackSubstitution.{Absorbed as IsAbsorbed, quotient, multiple, AbsorbingInBounds}
 use Rattle.fraction_free.specs.declared.vectors.Absorbed.{Absorbed}
 use Rattle.fraction_free.specs.VectorAnswers.{GivesAbsorbed}
+use Rattle.fraction_free.proofs.RowLemmas.{one_times}
 
 module _ {T : Type 0} (meaning : T → Meaning) (a : Algebra) where
   pub fault_absorbed : (divisor amount : Meaning) (vector : List Meaning) (InBounds : Type 0) (r : Result (Absorbed T) RingFault)
@@ -19,6 +20,12 @@ module _ {T : Type 0} (meaning : T → Meaning) (a : Algebra) where
   pub by_quotient : (passes : (x : T) → IsTrue (a.passes (meaning x))) (divisor amount : Meaning) (vector : List Meaning) (q : T)
       → a.ops.product (meaning q) divisor ≡ amount → IsAbsorbed a divisor amount vector (meaning q) vector
   by_quotient passes divisor amount vector q h = quotient (meaning q, passes q) h
+
+  -- a number divided by 1 is the number
+  pub by_one : Laws a → (passes : (x : T) → IsTrue (a.passes (meaning x))) (divisor : Meaning) (x : T) (vector : List Meaning)
+      → divisor ≡ a.ops.unit → IsAbsorbed a divisor (meaning x) vector (meaning x) vector
+  by_one l passes divisor x vector e =
+      by_quotient passes divisor (meaning x) vector x (ap (a.ops.product (meaning x)) e ∙ one_times a l (meaning x, passes x))
 
   none : (divisor amount : Meaning) → ((q : Passing a) → ¬ (a.ops.product q.0 divisor ≡ amount)) → ¬ (HasQuotient a divisor amount)
   none divisor amount h q = h q.quotient q.is

@@ -11,12 +11,7 @@ use Rattle.kernel_laws.specs.Reduction.{Reduction, ReductionLaws}
 use Rattle.kernel_laws.specs.BackSubstitution.{unit_vector, BackStep, BackStepInBounds, BackRun, begin, step, BackInBounds}
 use Rattle.kernel_laws.proofs.RunSizes.{back_size}
 use Rattle.fraction_free.specs.declared.rounds.PivotRow.{PivotRow}
-use Rattle.fraction_free.specs.RoundAnswers.{pivots_meant}
-
-same_item : {X : Type 0} (xs : List X) (i : ℕ) (p q : X) → i < length xs → get_or xs i p ≡ get_or xs i q
-same_item [] i p q b = absurd (omega arith)
-same_item (x ∷ xs) zero p q b = refl
-same_item (x ∷ xs) (suc i) p q b = same_item xs i p q (omega arith)
+use Rattle.fraction_free.specs.RoundAnswers.{pivots_meant, HasCore}
 
 module _ {T : Type 0} (meaning : T → Meaning) (a : Algebra) (r : Reduction) (rl : ReductionLaws a r) (DivisionInBounds : Meaning → Meaning → Type 0)
     (n free : ℕ) (ps : List (PivotRow T)) where
@@ -32,14 +27,14 @@ module _ {T : Type 0} (meaning : T → Meaning) (a : Algebra) (r : Reduction) (r
   pub vector_size : (qs : List (PivotRow T)) (vector : List T) → BackRun a r n free (pivots_meant meaning qs) (map meaning vector) → length vector ≡ n
   vector_size qs vector run = sym (length-map vector meaning) ∙ back_size a r rl n free run
 
-  module _ (at i : ℕ) (e : i + 1 ≡ at) (b : i < length ps) (p q : PivotRow T) (f : p ≡ get_or ps i p) where
+  module _ (at i : ℕ) (e : i + 1 ≡ at) (b : i < length ps) (p : PivotRow T) (f : p ≡ get_or ps i p) where
     pub pivot_here : All (IsPivotRow a n n) (pivots_meant meaning ps) → IsPivotRow a n n (one_meant p)
     pivot_here h =
         subst (IsPivotRow a n n) (get_or-map one_meant ps i p (one_meant p) b ∙ ap one_meant (sym f))
         (All-get_or (IsPivotRow a n n) (pivots_meant meaning ps) i (one_meant p) (omega (arith, b, length-map ps one_meant)) h)
 
-    pub same_pivot : get_or ps i q ≡ p
-    same_pivot = same_item ps i q p b ∙ sym f
+    pub core_here : All (HasCore meaning a r) ps → HasCore meaning a r p
+    core_here h = subst (HasCore meaning a r) (sym f) (All-get_or (HasCore meaning a r) ps i p b h)
 
     front : pivots_meant meaning (drop i ps) ≡ one_meant p ∷ pivots_meant meaning (drop at ps)
     front =

@@ -1,12 +1,14 @@
 -- Pivot rows, looked through by column.
-use Rattle.std.proofs.Common.{◌≡◌, ℕ, zero, suc, ◌+◌, ◌<◌, ◌≤◌, List, [], ◌∷◌, ◌++◌, refl, All, map, length, get_or, drop, sym, ap, ◌∙◌, subst, arith, inl, inr, ⊎_elim}
+use Rattle.std.proofs.Common.{◌≡◌, ℕ, zero, suc, ◌+◌, ◌<◌, ◌≤◌, List, [], ◌∷◌, ◌++◌, refl, All, map, length, get_or, drop, sym, ap, ◌∙◌, subst, arith, inl, inr, ⊎_elim, Result, Ok, Err, IfOk, IsErrAnd}
 use Rattle.std.proofs.lemmas.Bool.{cases_lt}
 use Rattle.std.proofs.lemmas.List.{drop_more, length-map}
 use Rattle.ring_laws.specs.Meaning.{Meaning}
 use Rattle.ring_laws.specs.Algebra.{Algebra}
+use Rattle.ring_laws.specs.declared.faults.RingFault.{RingFault}
 use Rattle.kernel_laws.specs.Pivots.{IsPivotColumn, ArePivotColumns, IsPivotRow}
 use Rattle.kernel_laws.proofs.Kernels.{first_of, rest_of}
 use Rattle.fraction_free.specs.declared.rounds.PivotRow.{PivotRow}
+use Rattle.fraction_free.specs.declared.rounds.Eliminated.{Eliminated}
 use Rattle.fraction_free.specs.RoundAnswers.{pivots_meant}
 
 pub among_at : {T : Type 0} (meaning : T → Meaning) (ps : List (PivotRow T)) (i column : ℕ) (p : PivotRow T) → i < length ps → p ≡ get_or ps i p
@@ -44,3 +46,8 @@ none_later a n j (p ∷ ps) h (inr m) = none_later a n j ps (rest_of (IsPivotRow
 
 pub pivots_length : {T : Type 0} (meaning : T → Meaning) (ps : List (PivotRow T)) → length (pivots_meant meaning ps) ≡ length ps
 pivots_length {T} meaning ps = length-map ps (λ (p : PivotRow T). (p.column, map meaning p.row.items))
+
+-- a run that failed has no pivot rows
+pub of_error : {T : Type 0} (P : Eliminated T → Type 0) (r : Result (Eliminated T) RingFault) (fault : RingFault) → IsErrAnd r (λ e. e ≡ fault) → IfOk r P
+of_error P (Ok v) fault e = absurd e
+of_error P (Err d) fault e = tt

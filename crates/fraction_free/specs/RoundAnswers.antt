@@ -7,7 +7,7 @@ use Rattle.ring_laws.specs.Answer.{OnFault}
 use Rattle.ring_laws.specs.declared.faults.RingFault.{RingFault}
 use Rattle.kernel_laws.specs.Rows.{entry_at}
 use Rattle.kernel_laws.specs.Pivots.{ArePivotColumns}
-use Rattle.kernel_laws.specs.Reduction.{Reduction}
+use Rattle.kernel_laws.specs.Reduction.{Reduction, IsCoreBy}
 use Rattle.kernel_laws.specs.Elimination.{Cleared, ClearingInBounds, entry, ChosenOf, Chosen, IsFree, Ran}
 use Rattle.kernel_laws.specs.Answers.{IsFirstFree}
 use Rattle.fraction_free.specs.declared.rounds.PivotRow.{PivotRow}
@@ -51,6 +51,10 @@ GivesRound meaning a r t column rows place InBounds (Err fault) = OnFault (¬ In
 -- pivot rows as lists of meanings, each with its column
 abbrev pub pivots_meant : {T : Type 0} → (T → Meaning) → List (PivotRow T) → List (ℕ × List Meaning)
 pivots_meant meaning pivots = map (λ p. (p.column, map meaning p.row.items)) pivots
+
+-- the core that a pivot row has is one of its entry at its column
+abbrev pub HasCore : {T : Type 0} → (T → Meaning) → (a : Algebra) → Reduction → PivotRow T → Type 0
+HasCore meaning a r p = IsCoreBy r (entry_at a.ops (map meaning p.row.items) p.column) (meaning p.core)
 
 -- elimination went up to the first free column from the first on, or through all columns, of which none is free from the first on
 abbrev pub RanTo : (a : Algebra) → Reduction → (columns first : ℕ) → List (List Meaning) → List (ℕ × List Meaning) → Option ℕ → Type 0

@@ -1,22 +1,23 @@
 //! The pivot rows: one round for each column, from the first column on.
 
-ghost use Rattle.std.specs.Prelude.{◌≡◌, ◌<◌, ◌≤◌, ◌+◌, IsTrue, IsFalse, ◌↔◌, MatchOption, length, map, All};
+ghost use Rattle.std.specs.Prelude.{◌≡◌, ◌<◌, ◌≤◌, ◌+◌, IsTrue, IsFalse, ◌↔◌, MatchOption, length, map, All, IfOk};
 ghost use Rattle.std.specs.List.{AllZip};
 ghost use Rattle.kernel_laws.specs.Pivots.{IsPivotColumn};
 ghost use Rattle.kernel_laws.specs.Elimination.{Cleared, ClearingInBounds, Chosen, RunInBounds};
 ghost use Rattle.fraction_free.specs.RowAnswers.{rows_meant, GivesRows};
-ghost use Rattle.fraction_free.specs.RoundAnswers.{Best, Picks, GivesRound, RanTo, GivesPivots, pivots_meant, RoundInBounds};
+ghost use Rattle.fraction_free.specs.RoundAnswers.{Best, Picks, GivesRound, RanTo, GivesPivots, pivots_meant, HasCore, RoundInBounds};
 
 use crate::rows::clear_row;
 use reducing::Reducing;
 use ring_laws::{Ring, RingFault};
 use std::alloc::Global;
 
-/// A pivot row with its column.
+/// A pivot row with its column, and the core of its entry there.
 #[derive(Drop)]
 pub struct PivotRow<R> {
     pub column: usize,
     pub row: Vec<R>,
+    pub core: R,
 }
 
 /// The pivot rows, and the free column at which elimination ended, or none where it went through all columns.
@@ -145,6 +146,7 @@ pub fn pivot_rows<R: Reducing>(
     requires sizes { All (λ row. length row.items ≡ columns) rows.items }
     ensures runs { GivesPivots R.meaning (RanTo R.algebra R.reduction columns first (rows_meant R.meaning rows.items))
         (RunInBounds R.division_in_bounds R.algebra R.reduction columns first (rows_meant R.meaning rows.items)) result }
+    ensures cores { IfOk result (λ found. All (HasCore R.meaning R.algebra R.reduction) found.pivots.items) }
 {
     let mut open = reduce_rows(alloc, rows)?;
     let mut pivots = Vec::new(alloc);
@@ -153,11 +155,13 @@ pub fn pivot_rows<R: Reducing>(
         match choose_pivot(&open, column) {
             Some(place) => {
                 let next = clear_column(alloc, open, place, column, columns, &divisor)?;
+                let core = next.core.duplicate(alloc)?;
                 open = next.open;
                 divisor = next.core;
                 pivots.push(PivotRow {
                     column,
                     row: next.pivot,
+                    core,
                 })?;
             }
             None => {

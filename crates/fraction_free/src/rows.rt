@@ -5,10 +5,9 @@ ghost use Rattle.poly_generic.specs.ListAnswer.{GivesList, GivesValue};
 ghost use Rattle.kernel_laws.specs.RowSteps.{cross, crossed, CrossInBounds, CrossingInBounds};
 ghost use Rattle.kernel_laws.specs.Elimination.{Cleared, ClearingInBounds};
 ghost use Rattle.reducing.specs.RowAnswer.{GivesRow};
-ghost use Rattle.fraction_free.specs.RowAnswers.{DividesRow};
 
-use reducing::Reducing;
-use ring_laws::{Domain, Ring, RingFault};
+use reducing::{Reducing, divide_row};
+use ring_laws::{Ring, RingFault};
 use std::alloc::Global;
 
 // p*x - e*y
@@ -42,21 +41,6 @@ fn cross_rows<R: Ring>(
     Ok(out)
 }
 
-// Each entry divided by the divisor, from the left; none where an entry has no quotient.
-fn divide_row<D: Domain>(alloc: Global, row: &[D], divisor: &D) -> Result<Option<Vec<D>>, RingFault>
-    requires not_zero { IsFalse (D.algebra.ops.is_nought (D.meaning divisor.now)) }
-    ensures divides { DividesRow D.meaning D.algebra D.division_in_bounds (map D.meaning row.now) (D.meaning divisor.now) result }
-{
-    let mut quotients = Vec::new(alloc);
-    for entry in row {
-        match entry.divide_exact(alloc, divisor)? {
-            Some(quotient) => quotients.push(quotient)?,
-            None => return Ok(None),
-        }
-    }
-    Ok(Some(quotients))
-}
-
 // The row with a zero in the column of the pivot row.
 pub fn clear_row<R: Reducing>(
     alloc: Global,
@@ -76,6 +60,9 @@ pub fn clear_row<R: Reducing>(
         return Ok(row);
     }
     let crossed = cross_rows(alloc, &pivot[column], &row, &row[column], pivot)?;
+    if divisor.is_one() {
+        return R::reduce_row(alloc, crossed);
+    }
     match divide_row(alloc, &crossed, divisor)? {
         Some(quotients) => R::reduce_row(alloc, quotients),
         None => R::reduce_row(alloc, crossed),

@@ -5,15 +5,16 @@ ghost use Rattle.poly_laws.specs.Bounds.{ScalingInBounds};
 ghost use Rattle.poly_generic.specs.ListAnswer.{GivesList, GivesValue};
 ghost use Rattle.kernel_laws.specs.Rows.{entry_at};
 ghost use Rattle.kernel_laws.specs.Pivots.{IsPivotRow};
+ghost use Rattle.kernel_laws.specs.Reduction.{IsCoreBy};
 ghost use Rattle.kernel_laws.specs.BackSubstitution.{unit_vector, times_vector, TimesInBounds, AbsorbingInBounds, BackStep, BackStepInBounds};
 ghost use Rattle.kernel_laws.specs.BackSubstitution.{BackRun, BackInBounds};
 ghost use Rattle.reducing.specs.RowAnswer.{GivesRow};
-ghost use Rattle.fraction_free.specs.RoundAnswers.{pivots_meant};
+ghost use Rattle.fraction_free.specs.RoundAnswers.{pivots_meant, HasCore};
 ghost use Rattle.fraction_free.specs.VectorAnswers.{GivesAbsorbed};
 
 use crate::rounds::PivotRow;
 use reducing::Reducing;
-use ring_laws::{Domain, Ring, RingFault};
+use ring_laws::{Ring, RingFault};
 use std::alloc::Global;
 
 // What is left of a number, and the vector with it.
@@ -53,16 +54,22 @@ fn multiplied<R: Ring>(alloc: Global, factor: &R, vector: &[R]) -> Result<Vec<R>
 }
 
 // The number divided by the divisor where that can be; else the vector is multiplied by it.
-fn absorb<D: Domain>(
+fn absorb<R: Reducing>(
     alloc: Global,
-    divisor: &D,
-    number: D,
-    vector: Vec<D>,
-) -> Result<Absorbed<D>, RingFault>
-    requires not_zero { IsFalse (D.algebra.ops.is_nought (D.meaning divisor.now)) }
-    ensures absorbs { GivesAbsorbed D.meaning D.algebra (D.meaning divisor.now) (D.meaning number) (map D.meaning vector.items)
-        (AbsorbingInBounds D.division_in_bounds D.algebra (D.meaning divisor.now) (D.meaning number) (map D.meaning vector.items)) result }
+    divisor: &R,
+    number: R,
+    vector: Vec<R>,
+) -> Result<Absorbed<R>, RingFault>
+    requires not_zero { IsFalse (R.algebra.ops.is_nought (R.meaning divisor.now)) }
+    ensures absorbs { GivesAbsorbed R.meaning R.algebra (R.meaning divisor.now) (R.meaning number) (map R.meaning vector.items)
+        (AbsorbingInBounds R.division_in_bounds R.algebra (R.meaning divisor.now) (R.meaning number) (map R.meaning vector.items)) result }
 {
+    if divisor.is_one() {
+        return Ok(Absorbed {
+            rest: number,
+            vector,
+        });
+    }
     match number.divide_exact(alloc, divisor)? {
         Some(rest) => Ok(Absorbed { rest, vector }),
         None => {
@@ -75,16 +82,18 @@ fn absorb<D: Domain>(
     }
 }
 
-// The entry at the column of a pivot row, and the whole vector reduced.
+// The entry at the column of a pivot row, whose core is known there, and the whole vector reduced.
 fn back_step<R: Reducing>(
     alloc: Global,
     row: &[R],
     column: usize,
+    core: &R,
     vector: Vec<R>,
 ) -> Result<Vec<R>, RingFault>
     requires same_length { length row.now ≡ length vector.items }
     requires within { column < length vector.items }
     requires not_zero { IsFalse (R.algebra.ops.is_nought (entry_at R.algebra.ops (map R.meaning row.now) column)) }
+    requires core { IsCoreBy R.reduction (entry_at R.algebra.ops (map R.meaning row.now) column) (R.meaning core.now) }
     ensures steps { GivesRow R.meaning
         (BackStep R.algebra R.reduction (length vector.items) column (map R.meaning row.now) (map R.meaning vector.items))
         (BackStepInBounds R.division_in_bounds R.algebra R.reduction (length vector.items) column (map R.meaning row.now)
@@ -92,8 +101,8 @@ fn back_step<R: Reducing>(
 {
     let sum = row_times(alloc, row, &vector)?;
     let number = sum.neg(alloc)?;
-    let (plain, core) = row[column].split(alloc)?;
-    let by_core = absorb(alloc, &core, number, vector)?;
+    let plain = row[column].plain_part(alloc, core)?;
+    let by_core = absorb(alloc, core, number, vector)?;
     let by_plain = absorb(alloc, &plain, by_core.rest, by_core.vector)?;
     let mut vector = by_plain.vector;
     vector[column] = by_plain.rest;
@@ -121,6 +130,7 @@ pub fn free_vector<R: Reducing>(
     free: usize,
 ) -> Result<Vec<R>, RingFault>
     requires pivot_rows { All (IsPivotRow R.algebra columns columns) (pivots_meant R.meaning pivots.now) }
+    requires cores { All (HasCore R.meaning R.algebra R.reduction) pivots.now }
     requires within { free < columns }
     ensures runs { GivesRow R.meaning (BackRun R.algebra R.reduction columns free (pivots_meant R.meaning pivots.now))
         (BackInBounds R.division_in_bounds R.algebra R.reduction columns free (pivots_meant R.meaning pivots.now)) result }
@@ -129,7 +139,8 @@ pub fn free_vector<R: Reducing>(
     let mut at = pivots.len();
     while at > 0 {
         at -= 1;
-        vector = back_step(alloc, &pivots[at].row, pivots[at].column, vector)?;
+        let pivot = &pivots[at];
+        vector = back_step(alloc, &pivot.row, pivot.column, &pivot.core, vector)?;
     }
     Ok(vector)
 }

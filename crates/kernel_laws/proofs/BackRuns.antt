@@ -161,6 +161,8 @@ module _ (a : Algebra) (l : Laws a) (dl : DomainLaws a) (r : Reduction) (rl : Re
     pub kernel : InKernel W n (rows_of ps) (entry_at W made)
     pub ends : EndsAt W n (entry_at W made) free
     pub zero_before : (k : ℕ) → k < j → k ≢ free → entry_at W made k ≡ W.nought
+    -- at the other free columns too
+    pub apart : (k : ℕ) → k < n → ¬ (IsPivotColumn k ps) → k ≢ free → entry_at W made k ≡ W.nought
 
   unit_at : (i k : ℕ) → k ≢ i → entry_at W (unit_vector W n i) k ≡ W.nought
   unit_at i k e = get_or-set_other (zeros W n) i k W.unit W.nought e ∙ at_zeros W n k
@@ -177,6 +179,7 @@ module _ (a : Algebra) (l : Laws a) (dl : DomainLaws a) (r : Reduction) (rl : Re
       later = λ k c m. unit_at i k (λ e. omega (arith, c, e));
     };
     zero_before = λ k c e. unit_at i k e;
+    apart = λ k c m e. unit_at i k e;
   }
 
   well_step : (i j : ℕ) (ps : List PivotRow) (row : Row) (old new : List Meaning) → StartsAt W row j → Echelon W n (suc j) ps → ¬ (i ≡ j)
@@ -196,6 +199,8 @@ module _ (a : Algebra) (l : Laws a) (dl : DomainLaws a) (r : Reduction) (rl : Re
             (other_side i j m c) w.ends) (cases_lt j i);
         zero_before = λ k c q. step_zero W l.ring (domain a l dl n) n row j k (entry_at W w.made) _ s (λ t. omega (arith, c, t))
             (omega (arith, c, b)) (w.zero_before k (omega (arith, c)) q);
+        apart = λ k c t q. step_zero W l.ring (domain a l dl n) n row j k (entry_at W w.made) _ s (λ f. t (inl f)) c
+            (w.apart k c (λ f. t (inr f)) q);
       }
 
   -- the vector of a free column
@@ -211,6 +216,7 @@ module _ (a : Algebra) (l : Laws a) (dl : DomainLaws a) (r : Reduction) (rl : Re
         kernel = w.kernel;
         ends = w.ends;
         zero_before = λ k c. w.zero_before k (omega (arith, c));
+        apart = w.apart;
       }
   back_sound i b _ _ (pivot_row {j} {ps} row s e) m _ (step {old = old} {new = new} q t) =
       well_step i j ps row old new s e (λ h. m (inl h)) t (back_sound i b (suc j) ps e (λ h. m (inr h)) old q)

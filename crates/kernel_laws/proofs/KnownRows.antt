@@ -1,5 +1,6 @@
 -- Rows, vectors and steps that are known from elsewhere, so that a wrong rule in specs/ does not check.
-use Rattle.std.specs.Prelude.{◌≡◌, List, pos, negsuc, [], ◌∷◌, refl}
+use Rattle.std.specs.Prelude.{◌≡◌, ℕ, zero, suc, ◌<◌, List, pos, negsuc, [], ◌∷◌, refl}
+use Rattle.std.proofs.Common.{arith}
 use Rattle.ring_laws.specs.Meaning.{Meaning, number}
 use Rattle.ring_laws.specs.Algebra.{Ops}
 use Rattle.ring_laws.specs.Wholes.{whole_algebra}
@@ -7,6 +8,7 @@ use Rattle.kernel_laws.specs.Rows.{entry_at, dot}
 use Rattle.kernel_laws.specs.RowSteps.{cross, crossed}
 use Rattle.kernel_laws.specs.Elimination.{crossed_at}
 use Rattle.kernel_laws.specs.Kernels.{combined}
+use Rattle.kernel_laws.specs.Answers.{Vector, meant, AreIndependent}
 use Rattle.kernel_laws.specs.BackSubstitution.{unit_vector, times_vector}
 
 abbrev o : Ops Meaning
@@ -43,6 +45,24 @@ known_unit = refl
 -- 3*(-8, 5, 1) + 2*(2, 3, 1) at column 1
 known_combination : combined o (entry_at o (number (pos 3) ∷ number (pos 2) ∷ [])) (entry_at o vector ∷ entry_at o first ∷ []) 1 ≡ number (pos 21)
 known_combination = refl
+
+-- (2, 3, 1) and (4, 6, 2) are not independent: twice the first less the second is zero
+known_dependent : ¬ (AreIndependent whole_algebra 3 (first ∷ (number (pos 4) ∷ number (pos 6) ∷ number (pos 2) ∷ []) ∷ []))
+known_dependent h = two_isnt (h by zero_at 0 (omega arith))
+  where
+    by : Vector whole_algebra
+    by zero = (number (pos 2), refl)
+    by (suc k) = (number (negsuc 0), refl)
+
+    zero_at : (k : ℕ) → k < 3 → combined o (meant whole_algebra by)
+        (entry_at o first ∷ entry_at o (number (pos 4) ∷ number (pos 6) ∷ number (pos 2) ∷ []) ∷ []) k ≡ o.nought
+    zero_at zero b = refl
+    zero_at (suc zero) b = refl
+    zero_at (suc (suc zero)) b = refl
+    zero_at (suc (suc (suc k))) b = absurd (omega (arith, b))
+
+    two_isnt : ¬ (number (pos 2) ≡ number (pos 0))
+    two_isnt e = cc
 
 -- past its end a row has zeros
 known_end : entry_at o first 3 ≡ number (pos 0)

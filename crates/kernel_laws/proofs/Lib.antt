@@ -2,6 +2,7 @@ pub mod Totals
 pub mod Kernels
 pub mod Echelon
 pub mod Spanning
+pub mod Independence
 pub mod RowSteps
 pub mod Stairs
 pub mod BackSteps
@@ -16,6 +17,7 @@ pub mod FrontRuns
 pub mod Absorbing
 pub mod BackRuns
 pub mod Vectors
+pub mod FreeColumns
 pub mod Bases
 pub mod TimesInBounds
 pub mod RunSizes

@@ -1,6 +1,6 @@
 -- What a run through all columns says of the kernel: where its vectors end, and the rank.
-use Rattle.std.proofs.Common.{◌≡◌, ℕ, zero, suc, ◌+◌, ◌<◌, ◌≤◌, List, [], ◌∷◌, map, length, refl, ap, sym, ◌∙◌, subst, arith, All, inl, inr, ⊎_elim}
-use Rattle.std.proofs.lemmas.List.{length-map, append-nil}
+use Rattle.std.proofs.Common.{◌≡◌, ℕ, zero, suc, ◌+◌, ◌<◌, ◌≤◌, List, map, length, refl, ap, sym, ◌∙◌, subst, arith, All, ⊎_elim}
+use Rattle.std.proofs.lemmas.List.{length-map}
 use Rattle.ring_laws.specs.Meaning.{Meaning}
 use Rattle.ring_laws.specs.Algebra.{Ops, RingLaws, Algebra, Passing, within, Laws}
 use Rattle.ring_laws.specs.Division.{DomainLaws}

@@ -1,10 +1,11 @@
 -- The vector of a free column after a run: it lies in the kernel, and ends at that column.
-use Rattle.std.proofs.Common.{◌≡◌, ℕ, ◌<◌, ◌≤◌, arith, List, map, length, sym, ◌∙◌, ap, subst, All}
+use Rattle.std.proofs.Common.{◌≡◌, ◌≢◌, ℕ, ◌<◌, ◌≤◌, arith, List, map, length, sym, ◌∙◌, ap, subst, All}
 use Rattle.ring_laws.specs.Meaning.{Meaning}
 use Rattle.ring_laws.specs.Algebra.{Ops, Algebra, Passing, within, Laws}
 use Rattle.ring_laws.specs.Division.{DomainLaws}
 use Rattle.kernel_laws.specs.Rows.{entry_at, InKernel}
 use Rattle.kernel_laws.specs.Kernels.{EndsAt}
+use Rattle.kernel_laws.specs.Pivots.{IsPivotColumn}
 use Rattle.kernel_laws.specs.Reduction.{Reduction, ReductionLaws, bare}
 use Rattle.kernel_laws.specs.Elimination.{Run}
 use Rattle.kernel_laws.specs.BackSubstitution.{BackRun}
@@ -27,6 +28,7 @@ module _ (a : Algebra) (l : Laws a) (dl : DomainLaws a) (r : Reduction) (rl : Re
     pub size : length made ≡ n
     pub kernel : InKernel W n rows (entry_at W made)
     pub ends : EndsAt W n (entry_at W made) free
+    pub apart : (k : ℕ) → k < n → ¬ (IsPivotColumn k ps) → k ≢ free → entry_at W made k ≡ W.nought
 
   pub kernel_vector : (i : ℕ) → i < m → IsFreeColumn n ps i → (vector : List Meaning) → BackRun a r n i ps vector → KernelVector i vector
   kernel_vector i c f vector s =
@@ -40,6 +42,7 @@ module _ (a : Algebra) (l : Laws a) (dl : DomainLaws a) (r : Reduction) (rl : Re
         size = w.size;
         kernel = pivots_back a l dl r rl u n rows long m b os ps t run (entry_at W w.made) (λ k d e. w.ends.later k (omega (arith, c, d)) e) w.kernel;
         ends = w.ends;
+        apart = λ k d e. w.apart k d (isnt_pivot a l dl r rl u n rows long m b os ps t run k e);
       }
 
   pub vector_at : {i : ℕ} {vector : List Meaning} (w : KernelVector i vector) (k : ℕ) → entry_at a.ops vector k ≡ (entry_at W w.made k).0

@@ -1,5 +1,5 @@
 -- What elimination answers of the kernel. Its vectors have entries of any size: all meanings that belong to the ring.
-use Rattle.std.specs.Prelude.{◌≡◌, ℕ, suc, ◌<◌, ◌≤◌, List, map, length, All}
+use Rattle.std.specs.Prelude.{◌≡◌, ◌≢◌, ℕ, suc, ◌<◌, ◌≤◌, List, map, length, All}
 use Rattle.std.specs.List.{AllZip, Contains}
 use Rattle.std.specs.List.Sorted.{IsStrictlyIncreasing}
 use Rattle.ring_laws.specs.Meaning.{Meaning}
@@ -42,7 +42,13 @@ pub record Combination (a : Algebra) (columns : ℕ) (vectors : List (List Meani
   pub by : Vector a
   pub is : (k : ℕ) → k < columns → a.ops.product factor.0 (w k).0 ≡ combined a.ops (meant a by) (map (entry_at a.ops) vectors) k
 
--- one vector of the kernel for each column at which one ends, by rising column, and they span the kernel
+-- a sum of multiples of the vectors is zero at each column only where each is taken by zero
+abbrev pub AreIndependent : (a : Algebra) → ℕ → List (List Meaning) → Type 0
+AreIndependent a columns vectors =
+    (by : Vector a) → ((k : ℕ) → k < columns → combined a.ops (meant a by) (map (entry_at a.ops) vectors) k ≡ a.ops.nought)
+    → (i : ℕ) → i < length vectors → (by i).0 ≡ a.ops.nought
+
+-- one vector of the kernel for each column at which one ends, by rising column; they span the kernel, and are independent
 pub record Basis (a : Algebra) (columns : ℕ) (rows : List (List Meaning)) (vectors : List (List Meaning)) : Type 0 where
   pub sizes : All (λ v. length v ≡ columns) vectors
   pub kernel : All (λ v. InKernel a.ops columns rows (entry_at a.ops v)) vectors
@@ -50,7 +56,10 @@ pub record Basis (a : Algebra) (columns : ℕ) (rows : List (List Meaning)) (vec
   pub rising : IsStrictlyIncreasing frees
   pub ends : AllZip (λ v j. EndsAt a.ops columns (entry_at a.ops v) j) vectors frees
   pub others : (j : ℕ) → ¬ (Contains frees j) → NoneEnds a columns rows j
+  -- each vector is zero at the columns at which the others end
+  pub apart : AllZip (λ v j. (k : ℕ) → Contains frees k → k ≢ j → entry_at a.ops v k ≡ a.ops.nought) vectors frees
   pub spans : (w : Vector a) → InKernel a.ops columns rows (meant a w) → Combination a columns vectors w
+  pub independent : AreIndependent a columns vectors
 
 -- the vector that the steps give at a free column: elimination goes up to that column, and back substitution through the pivot rows before it
 pub record VectorOf (a : Algebra) (r : Reduction) (columns : ℕ) (rows : List (List Meaning)) (free : ℕ) (vector : List Meaning) : Type

@@ -14,7 +14,7 @@ use Rattle.reducing.specs.TakenOutLaws.{scaled, scaled_is, is_scaled, scaled_twi
 use Rattle.reducing.specs.PolynomialRows.{Row, meant, forms, Reduced, stays, divides, PolynomialsReduced}
 use Rattle.reducing.specs.FactorLists.{laws, domain, P, linear_is_factor, forms_are_factors}
 use Rattle.reducing.specs.CommonForms.{HasNoCommonForm, IsSomeNonzero}
-use Rattle.reducing.proofs.ReducedRows.{entry_of_times}
+use Rattle.reducing.proofs.WithoutFactor.{entry_of_times}
 
 abbrev times : Passing polynomials → Row → Row
 times t row = scaled polynomials laws domain t row

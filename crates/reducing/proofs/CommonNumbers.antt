@@ -94,7 +94,7 @@ of_number c d x h k =
     subst (λ (v : Passing whole_algebra). c * d ∣ unsigned_abs (number_of v.0)) (sym (by_number (pos c) x k))
     (subst (λ n. c * d ∣ n) (sym (unsigned_abs-mul (pos c) (number_of (coefficient_at o (parts x) k).0))) (mul-dvd-mul_left d c (h k)))
 
-by_one : (xs : List ℕ) → DividesAll 1 xs
+pub by_one : (xs : List ℕ) → DividesAll 1 xs
 by_one [] = tt
 by_one (x ∷ xs) = (one-dvd x, by_one xs)
 

@@ -1,15 +1,12 @@
 -- Divisors of numbers below 2^127, and the quotients of a row.
-use Rattle.std.proofs.Common.{◌≡◌, ◌≢◌, ℕ, zero, suc, ◌+◌, ◌<◌, ◌≤◌, ◌^◌, ℤ, pos, ◌*ℤ◌, unsigned_abs, List, [], ◌∷◌, map, drop, length, get_or, Option, Some, None, MatchOption, refl, sym, ap, ◌∙◌, subst, arith, Ok, int_div, int_rem}
+use Rattle.std.proofs.Common.{◌≡◌, ◌≢◌, ℕ, zero, suc, ◌+◌, ◌<◌, ◌≤◌, ◌^◌, ℤ, pos, ◌*ℤ◌, unsigned_abs, List, [], ◌∷◌, map, drop, length, get_or, Option, Some, None, MatchOption, refl, sym, ap, ◌∙◌, subst, arith, int_div, int_rem}
 use Rattle.std.specs.Option.{IsSome}
 use Rattle.std.specs.Int.{◌∣◌, IsGcd}
 use Rattle.std.proofs.lemmas.Int.{ints, quot-rem}
 use Rattle.std.proofs.lemmas.Nat.Gcd.{le_of_dvd, dvd-zero, mod-eq-zero_of_dvd}
 use Rattle.std.proofs.lemmas.List.{length-map, drop_more, get_or-map}
 use Rattle.std.proofs.Math.Nat.{eq-zero_of_zero-dvd}
-use Rattle.ring_laws.specs.Meaning.{number}
-use Rattle.ring_laws.specs.Wholes.{whole_algebra}
 use Rattle.ring_laws.specs.WholeDomain.{abs_nought}
-use Rattle.ring_laws.specs.Division.{Divides}
 use Rattle.ring_laws.proofs.Quotients.{abs_rem}
 use Rattle.poly_divide.specs.Content.{DividesAll, IsContent}
 use Rattle.poly_divide.proofs.Contents.{content_more}
@@ -43,24 +40,13 @@ content_before size row i x c g b e h k =
     subst (λ z. IsContent z g) (sym p) (content_more (size x) (drop (i + 1) (map size row)) c g h k)
 
 -- ---- quotients
-divides_at : {T : Type 0} (size : T → ℕ) (row : List T) (i d : ℕ) (x : T) → i < length row → x ≡ get_or row i x → DividesAll d (map size row)
+pub divides_at : {T : Type 0} (size : T → ℕ) (row : List T) (i d : ℕ) (x : T) → i < length row → x ≡ get_or row i x → DividesAll d (map size row)
     → d ∣ size x
 divides_at size [] i d x b e h = absurd (omega arith)
 divides_at size (y ∷ ys) zero d x b e h = subst (λ t. d ∣ size t) (sym e) h.0
 divides_at size (y ∷ ys) (suc i) d x b e h = divides_at size ys i d x (omega arith) e h.1
 
-quotient_of : (a d : ℤ) → unsigned_abs d ∣ unsigned_abs a → int_div a d *ℤ d ≡ a
+pub quotient_of : (a d : ℤ) → unsigned_abs d ∣ unsigned_abs a → int_div a d *ℤ d ≡ a
 quotient_of a d h =
     let r : int_rem a d ≡ pos 0 = abs_nought (int_rem a d) (abs_rem a d ∙ mod-eq-zero_of_dvd (unsigned_abs d) h) in
     omega (arith, ints, quot-rem a d, r)
-
-some_quotient : (a d : ℤ) (r : Option Whole) → unsigned_abs d ∣ unsigned_abs a
-    → Divides (λ (w : Whole). number w.value) whole_algebra (Unit {0}) (number a) (number d) (Ok r) → IsSome r
-some_quotient a d (Some w) h k = refl
-some_quotient a d None h k = absurd (k (number (int_div a d), refl) (ap number (quotient_of a d h)))
-
-pub row_quotient : (row : List Whole) (i : ℕ) (x d : Whole) (r : Option Whole) → i < length row → x ≡ get_or row i x
-    → DividesAll (unsigned_abs d.value) (map (λ (w : Whole). unsigned_abs w.value) row)
-    → Divides (λ (w : Whole). number w.value) whole_algebra (Unit {0}) (number x.value) (number d.value) (Ok r) → IsSome r
-row_quotient row i x d r b e h k =
-    some_quotient x.value d.value r (divides_at (λ (w : Whole). unsigned_abs w.value) row i (unsigned_abs d.value) x b e h) k

@@ -1,9 +1,11 @@
 -- The lead of a polynomial and of its negative.
 use Rattle.std.proofs.Common.{◌≡◌, zero, suc, ◌-◌, ℤ, pos, negsuc, ◌<ℤ◌, not, IsTrue, List, [], ◌∷◌, map, length, refl, ap, ◌∙◌, sym, arith, inl, inr, Result, Ok, Err, IfOk}
 use Rattle.std.proofs.lemmas.Int.{ints}
-use Rattle.ring_laws.specs.Meaning.{Meaning, number, listed, parted-joined}
+use Rattle.std.proofs.lemmas.List.{length-map}
+use Rattle.ring_laws.specs.Meaning.{Meaning, number, listed, items, parted-joined}
 use Rattle.ring_laws.specs.Answer.{Gives}
 use Rattle.ring_laws.specs.Wholes.{number_of, is_zero, whole_algebra}
+use Rattle.ring_laws.specs.declared.wholes.Whole.{Whole}
 use Rattle.ring_laws.specs.declared.faults.RingFault.{RingFault}
 use Rattle.poly_laws.specs.Lists.{coefficient_at, is_trimmed}
 use Rattle.whole_roots.specs.Differences.{polynomials}
@@ -43,3 +45,8 @@ lead_as_it_is f h = record { is = inl refl; positive = λ n. above (lead_number 
     above (pos zero) p q = absurd (q refl)
     above (pos (suc n)) p q = omega (arith, ints)
     above (negsuc n) p q = absurd (p (omega (arith, ints)))
+
+-- a polynomial that is 1 has one number
+pub one_number : (list : List Whole) (f : Meaning) → listed (map (λ w. number w.value) list) ≡ f → f ≡ polynomials.ops.unit → length list ≡ 1
+one_number list f e h =
+    omega (arith, length-map list (λ w. number w.value), ap length (sym (parted-joined (map (λ w. number w.value) list)) ∙ ap items (e ∙ h)))

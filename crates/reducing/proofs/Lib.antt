@@ -1,7 +1,9 @@
 mod Divisors
+mod DividedInPlace
 mod WholeRows
 mod Polynomials
 mod LeastEntries
+pub mod RowDivisions
 mod RowQuotients
 mod ContentQuotients
 mod WithoutFactor
@@ -18,3 +20,4 @@ pub mod CommonNumbers
 pub mod ZeroRows
 pub mod Constants
 pub mod ReducedVectors
+pub mod WholeVectors

@@ -5,14 +5,14 @@ use Rattle.std.proofs.lemmas.Int.{ints}
 use Rattle.ring_solver.proofs.Read.{reading, ring}
 use Rattle.ring_laws.specs.Meaning.{Meaning}
 use Rattle.ring_laws.specs.Algebra.{Passing, same_passing, ProductInBounds}
-use Rattle.ring_laws.specs.Answer.{OnFault, fault_weaker}
+use Rattle.ring_laws.specs.Answer.{OnFault, GivesInBounds, fault_weaker}
 use Rattle.ring_laws.specs.Division.{Divides}
 use Rattle.ring_laws.specs.declared.faults.RingFault.{RingFault}
 use Rattle.poly_divide.specs.Content.{row_sizes, IsContent}
 use Rattle.poly_laws.proofs.Rings.{solvable}
 use Rattle.whole_roots.specs.Differences.{polynomials}
 use Rattle.kernel_laws.specs.Reduction.{IsCoreBy}
-use Rattle.reducing.specs.RowAnswer.{GivesParts, GivesPart}
+use Rattle.reducing.specs.RowAnswer.{GivesPart}
 use Rattle.reducing.specs.WholeLaws.{one_content}
 use Rattle.reducing.specs.TakenOutLaws.{Multiple, all_taken_out_multiple}
 use Rattle.reducing.specs.PolynomialRows.{Row, meant, Reduced, stays, divides, WithoutContent, forms, IsCore, PolynomialSplit, DivisionOfPolynomials, IsTimesContent, CoreInBounds, SplittingInBounds, polynomial_reduction}
@@ -110,7 +110,7 @@ module _ (x : Meaning) (content : ℤ) (part core : Zn) (t : IsTimesContent x co
   moved : (q c k : Passing polynomials) → P.product (P.product q c) k ≡ P.product (P.product q k) c
   moved q c k = ring (solvable P laws.ring) (q ∷ c ∷ k ∷ []) (search reading depth 40 fits 20000) refl
 
-  pub parts : (quotient plain scale : Zn) (r : Option Zn) → r ≡ Some quotient → Divided r → sense scale ≡ polynomials.ops.whole content
+  parts : (quotient plain scale : Zn) (r : Option Zn) → r ≡ Some quotient → Divided r → sense scale ≡ polynomials.ops.whole content
       → sense plain ≡ polynomials.ops.product (sense quotient) (sense scale) → PolynomialSplit x (sense plain) (sense core)
   parts quotient plain scale r e k w p = record {
     is_core = h;
@@ -124,16 +124,26 @@ module _ (x : Meaning) (content : ℤ) (part core : Zn) (t : IsTimesContent x co
   pub division_fault : (fault : RingFault) → OnFault (¬ (DivisionOfPolynomials (sense part) (sense core))) fault → OnFault (¬ (SplittingInBounds x)) fault
   division_fault fault k = fault_weaker fault (λ n s. n (s.division content (sense part) (sense core) t h)) k
 
-  pub product_fault : (quotient scale : Zn) (r : Option Zn) → r ≡ Some quotient → Divided r → sense scale ≡ polynomials.ops.whole content
+  product_fault : (quotient scale : Zn) (r : Option Zn) → r ≡ Some quotient → Divided r → sense scale ≡ polynomials.ops.whole content
       → (fault : RingFault) → OnFault (¬ (ProductInBounds polynomials (sense quotient) (sense scale))) fault → OnFault (¬ (SplittingInBounds x)) fault
   product_fault quotient scale r e k w fault g =
       fault_weaker fault (λ n s. n (subst (ProductInBounds polynomials (sense quotient)) (sym w)
       (s.product content (sense part) (sense core) (sense quotient) t h (quotient_is quotient r e k)))) g
 
-pub fault_parts : (x : Meaning) (r : Result (record { 0 : Zn; 1 : Zn }) RingFault) (fault : RingFault) → IsErrAnd r (λ e. e ≡ fault)
-    → OnFault (¬ (SplittingInBounds x)) fault → GivesParts sense (PolynomialSplit x) (SplittingInBounds x) r
-fault_parts x (Ok v) fault e h = absurd e
-fault_parts x (Err d) fault e h = subst (OnFault (¬ (SplittingInBounds x))) (sym e) h
+-- the answer of the last product
+pub plain_is : (x : Meaning) (content : ℤ) (part core : Zn) (t : IsTimesContent x content (sense part)) (h : IsCore x (sense core))
+    (quotient scale : Zn) (r : Option Zn) → r ≡ Some quotient
+    → Divides sense polynomials (DivisionOfPolynomials (sense part) (sense core)) (sense part) (sense core) (Ok r)
+    → sense scale ≡ polynomials.ops.whole content → (out : Result Zn RingFault)
+    → GivesInBounds sense (ProductInBounds polynomials (sense quotient) (sense scale)) (polynomials.ops.product (sense quotient) (sense scale)) out
+    → GivesPart sense (λ plain. PolynomialSplit x plain (sense core)) (SplittingInBounds x) out
+plain_is x content part core t h quotient scale r e k w (Ok plain) g = parts x content part core t h quotient plain scale r e k w g.1
+plain_is x content part core t h quotient scale r e k w (Err fault) g = product_fault x content part core t h quotient scale r e k w fault g
+
+pub fault_plain : (x core : Meaning) (r : Result Zn RingFault) (fault : RingFault) → IsErrAnd r (λ e. e ≡ fault)
+    → OnFault (¬ (SplittingInBounds x)) fault → GivesPart sense (λ plain. PolynomialSplit x plain core) (SplittingInBounds x) r
+fault_plain x core (Ok v) fault e h = absurd e
+fault_plain x core (Err d) fault e h = subst (OnFault (¬ (SplittingInBounds x))) (sym e) h
 
 pub core_fault : (x : Meaning) (fault : RingFault) → OnFault (¬ (CoreInBounds x)) fault → OnFault (¬ (SplittingInBounds x)) fault
 core_fault x fault h = fault_weaker fault (λ n s. n s.core) h

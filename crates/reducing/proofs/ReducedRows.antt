@@ -21,7 +21,7 @@ use Rattle.reducing.specs.PolynomialRows.{Row, meant, IsLeast, IsLeastOf, Withou
 use Rattle.reducing.specs.FactorLists.{P, form_power_is}
 use Rattle.reducing.specs.PolynomialAnswers.{LeastOf, IsMost, FactorsOfRowInBounds}
 use Rattle.reducing.proofs.Polynomials.{Zn, sense, senses, row_of, row_meant}
-use Rattle.reducing.proofs.WithoutFactor.{row_is, products_are}
+use Rattle.reducing.proofs.WithoutFactor.{row_is, products_are, entry_of_times}
 
 -- a row of zeros
 pub row_stays : (row : List Zn) (d : ℤ) → IsContent (row_sizes (senses row)) (unsigned_abs d) → d ≡ pos 0
@@ -47,12 +47,6 @@ pub entry_is : (row : List Zn) (place : ℕ) (f : Zn) → IsLeast (senses row) p
 entry_is row place f h e = at_item polynomials.ops sense row place f (place_within row place h) e
 
 -- ---- the factors of an entry
-pub entry_of_times : (t : Meaning) (row : Row) (k : ℕ) → k < length row
-    → entry_at polynomials.ops (times_row polynomials t row) k ≡ polynomials.ops.product (get_or row k P.nought).0 t
-entry_of_times t [] k b = absurd (omega arith)
-entry_of_times t (x ∷ xs) zero b = refl
-entry_of_times t (x ∷ xs) (suc k) b = entry_of_times t xs k (omega arith)
-
 -- a power that divides the row divides the entry
 most_of : (row : List Zn) (place : ℕ) (x : Entry) → place < length row
     → IsLinearFactor (entry_at polynomials.ops (senses row) place) x → IsMost (linear (pos x.0.0) x.0.1) x.1 (senses row)

@@ -8,7 +8,7 @@ use Rattle.ring_laws.specs.Meaning.{Meaning}
 use Rattle.ring_laws.specs.Algebra.{Ops, Passing, within}
 use Rattle.poly_divide.specs.Forms.{linear}
 use Rattle.whole_roots.specs.Differences.{polynomials}
-use Rattle.whole_roots.specs.LinearFactors.{IsProfileForm, form_power}
+use Rattle.whole_roots.specs.LinearFactors.{form_power}
 use Rattle.kernel_laws.specs.Rows.{entry_at}
 use Rattle.kernel_laws.specs.RowSteps.{HasQuotient}
 use Rattle.kernel_laws.specs.Kernels.{EndsAt}

@@ -1,19 +1,18 @@
 -- A row of whole numbers with content 0 or 1 is reduced, and else its quotients by the content are.
-use Rattle.std.proofs.Common.{◌≡◌, ℕ, zero, suc, ◌≤◌, ℤ, pos, ◌*ℤ◌, ◌≤ℤ◌, unsigned_abs, List, [], ◌∷◌, map, refl, sym, ap, ◌∙◌, subst, arith, Result, Ok, Err, Vec, IfOk, IfErr}
+use Rattle.std.proofs.Common.{◌≡◌, ℕ, zero, suc, ◌≤◌, ℤ, pos, ◌*ℤ◌, ◌≤ℤ◌, unsigned_abs, List, [], ◌∷◌, map, refl, sym, ap, ◌∙◌, subst, arith, Result, Ok, Err}
 use Rattle.std.specs.Prelude.{⊤}
 use Rattle.std.proofs.lemmas.Int.{ints}
 use Rattle.std.proofs.lemmas.Simd.{map-map}
 use Rattle.std.proofs.Math.Nat.{eq-zero_of_zero-dvd}
 use Rattle.ring_solver.proofs.Read.{ring_z, reading_z}
 use Rattle.ring_laws.specs.Meaning.{Meaning, number}
-use Rattle.ring_laws.specs.Answer.{Gives, fault_memory, fault_weaker}
+use Rattle.ring_laws.specs.Answer.{Gives, fault_weaker}
 use Rattle.ring_laws.specs.WholeDomain.{abs_nought}
 use Rattle.ring_laws.specs.declared.wholes.Whole.{Whole}
 use Rattle.ring_laws.specs.declared.faults.RingFault.{RingFault}
-use Rattle.ring_laws.specs.declared.faults.RingFault.TheVariants.{Memory}
 use Rattle.poly_divide.specs.Content.{DividesAll, IsContent}
 use Rattle.kernel_laws.specs.Reduction.{IsCoreBy}
-use Rattle.reducing.specs.RowAnswer.{GivesRow, GivesPart}
+use Rattle.reducing.specs.RowAnswer.{GivesPart}
 use Rattle.reducing.specs.WholeRows.{WholeReduced, whole_reduction}
 
 abbrev values : List Whole → List ℤ
@@ -62,7 +61,8 @@ stays row d h b s = record {
 positive_is : (d : ℤ) → pos 0 ≤ℤ d → pos (unsigned_abs d) ≡ d
 positive_is d s = omega (arith, ints, s)
 
-quotients : (row qs : List Whole) (d : ℤ) → IsContent (sizes row) (unsigned_abs d) → pos 0 ≤ℤ d → ¬ (unsigned_abs d ≡ 0)
+-- and else the quotients by the content are the reduced row
+pub quotients : (row qs : List Whole) (d : ℤ) → IsContent (sizes row) (unsigned_abs d) → pos 0 ≤ℤ d → ¬ (unsigned_abs d ≡ 0)
     → values row ≡ map (λ (q : Whole). d *ℤ q.value) qs → WholeReduced (meant row) (meant qs)
 quotients row qs d h s m e = record {
   numbers = values row;
@@ -75,13 +75,6 @@ quotients row qs d h s m e = record {
       ∙ sym (map-map (λ q. pos (unsigned_abs d) *ℤ q) (λ w. w.value) qs);
   zeros_stay = λ t. absurd (m t);
 }
-
--- the answer of the division by the content
-pub reduced : {Z : Type 0} (row : List Whole) (d : ℤ) (r : Result (Vec Whole Z) RingFault) → IsContent (sizes row) (unsigned_abs d) → pos 0 ≤ℤ d
-    → ¬ (unsigned_abs d ≡ 0) → IfOk r (λ out. values row ≡ map (λ (q : Whole). d *ℤ q.value) out.items) → IfErr r (λ fault. fault ≡ Memory)
-    → GivesRow (λ (w : Whole). number w.value) (WholeReduced (meant row)) ⊤ r
-reduced row d (Ok out) h s m e f = quotients row out.items d h s m e
-reduced row d (Err fault) h s m e f = fault_memory (¬ ⊤) fault f
 
 -- the core of a number, which is 1
 pub core_alone : (x : ℤ) (r : Result Whole RingFault) → Gives (λ (w : Whole). number w.value) (number (pos 1)) r

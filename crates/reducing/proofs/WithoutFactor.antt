@@ -1,18 +1,19 @@
 -- Taking a form out of a row of the code, as often as it divides every entry.
-use Rattle.std.proofs.Common.{◌≡◌, ℕ, ◌+◌, ◌≤◌, ℤ, pos, List, [], ◌∷◌, map, refl, sym, ap, ◌∙◌, subst, Result, Ok, Err, Some, Vec, IsErrAnd}
+use Rattle.std.proofs.Common.{◌≡◌, ℕ, zero, suc, ◌+◌, ◌<◌, List, [], ◌∷◌, map, length, get_or, refl, sym, ap, ◌∙◌, subst, arith, Result, Ok, Err, Some, Vec, IsErrAnd}
+use Rattle.std.proofs.lemmas.List.{length-map}
 use Rattle.ring_laws.specs.Meaning.{Meaning}
 use Rattle.ring_laws.specs.Algebra.{Passing}
 use Rattle.ring_laws.specs.Answer.{OnFault, fault_weaker}
 use Rattle.ring_laws.specs.declared.faults.RingFault.{RingFault}
 use Rattle.poly_laws.proofs.Coefficients.{meanings_same}
-use Rattle.poly_divide.specs.Forms.{linear}
 use Rattle.whole_roots.specs.Differences.{polynomials}
-use Rattle.kernel_laws.specs.RowSteps.{QuotientsInBounds}
+use Rattle.kernel_laws.specs.Rows.{entry_at}
+use Rattle.kernel_laws.specs.RowSteps.{Quotients, NoQuotients, QuotientsInBounds}
 use Rattle.reducing.specs.RowAnswer.{GivesRow}
 use Rattle.reducing.specs.TakenOut.{raised_to, times_row, TakenOut}
 use Rattle.reducing.specs.TakenOutLaws.{scaled, scaled_is, PowerOf, power_is, is_power, no_power, power_more}
 use Rattle.reducing.specs.PolynomialRows.{Row, meant, OfRows, DivisionOfPolynomials}
-use Rattle.reducing.specs.FactorLists.{laws, domain, linear_is_factor}
+use Rattle.reducing.specs.FactorLists.{laws, domain, P}
 use Rattle.reducing.specs.PolynomialAnswers.{IsMost, FactorInBounds}
 use Rattle.reducing.proofs.Polynomials.{Zn, sense, senses, row_of, row_meant}
 
@@ -31,12 +32,31 @@ pub products_are : (t : Meaning) (quotients : List Zn)
 products_are t [] = refl
 products_are t (q ∷ qs) = ap (λ s. polynomials.ops.product (sense q) t ∷ s) (products_are t qs)
 
-module _ (u : ℕ) (v : ℤ) (h : 1 ≤ u) where
-  abbrev form : Meaning
-  form = linear (pos u) v
+-- the quotients of the entries, as products and as a row of any size
+products_of : (t : Meaning) (row quotients : List Zn) → Quotients polynomials t (senses row) (senses quotients)
+    → senses row ≡ map (λ q. polynomials.ops.product (sense q) t) quotients
+products_of t [] [] h = refl
+products_of t [] (q ∷ qs) h = absurd h
+products_of t (f ∷ fs) [] h = absurd h
+products_of t (f ∷ fs) (q ∷ qs) h = cc (h.0, products_of t fs qs h.1)
 
-  abbrev t : Passing polynomials
-  t = (form, (linear_is_factor u v h).0)
+pub entry_of_times : (t : Meaning) (row : Row) (k : ℕ) → k < length row
+    → entry_at polynomials.ops (times_row polynomials t row) k ≡ polynomials.ops.product (get_or row k P.nought).0 t
+entry_of_times t [] k b = absurd (omega arith)
+entry_of_times t (x ∷ xs) zero b = refl
+entry_of_times t (x ∷ xs) (suc k) b = entry_of_times t xs k (omega arith)
+
+none_of : (t : Meaning) (row : List Meaning) → NoQuotients polynomials t row → (quotients : Row) → ¬ (row ≡ times_row polynomials t quotients)
+none_of t row h quotients e =
+    h.none (record {
+      quotient = get_or quotients h.index P.nought;
+      is = sym (ap (λ ms. entry_at polynomials.ops ms h.index) e ∙ entry_of_times t quotients h.index
+          (omega (arith, h.within, ap length e, length-map quotients (λ (w : Passing polynomials). polynomials.ops.product w.0 t))));
+    })
+
+module _ (t : Passing polynomials) where
+  abbrev form : Meaning
+  form = t.0
 
   left_power : (power : ℕ) (row rest : List Zn) → IsLeft form power row rest → PowerOf polynomials laws domain t power (row_of row) (row_of rest)
   left_power power row rest e = power_is polynomials laws domain t power (row_of row) (row_of rest) (sym (row_meant row) ∙ e)
@@ -53,10 +73,10 @@ module _ (u : ℕ) (v : ℤ) (h : 1 ≤ u) where
       scaled_is polynomials laws domain t (row_of rest) (row_of quotients) (sym (row_meant rest) ∙ e ∙ products_are form quotients)
 
   pub left_more : (power : ℕ) (row rest quotients : List Zn) → IsLeft form power row rest
-      → senses rest ≡ map (λ q. polynomials.ops.product (sense q) form) quotients → IsLeft form (power + 1) row quotients
+      → Quotients polynomials form (senses rest) (senses quotients) → IsLeft form (power + 1) row quotients
   left_more power row rest quotients e f =
       power_left (power + 1) row quotients (power_more polynomials laws domain t power (row_of row) (row_of rest) (row_of quotients)
-      (left_power power row rest e) (quotients_row rest quotients f))
+      (left_power power row rest e) (quotients_row rest quotients (products_of form rest quotients f)))
 
   -- what is left, which the form doesn't divide
   pub taken_out : (power : ℕ) (row rest : List Zn) → IsLeft form power row rest
@@ -68,6 +88,10 @@ module _ (u : ℕ) (v : ℤ) (h : 1 ≤ u) where
     result_is = row_meant rest;
     holds = record { power = power; times = sym (row_meant row) ∙ e; no_more = λ quotients f. n quotients (row_meant rest ∙ f) };
   }
+
+  pub none_taken : (power : ℕ) (row rest : List Zn) → IsLeft form power row rest → NoQuotients polynomials form (senses rest)
+      → OfRows (TakenOut polynomials form) (senses row) (senses rest)
+  none_taken power row rest e n = taken_out power row rest e (none_of form (senses rest) n)
 
   -- after the greatest power the form divides no more
   pub most_taken : (power : ℕ) (row rest : List Zn) → IsMost form power (senses row) → IsLeft form power row rest

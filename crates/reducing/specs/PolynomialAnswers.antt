@@ -1,12 +1,11 @@
 -- What the calls on rows of polynomials answer.
-use Rattle.std.specs.Prelude.{◌⊎◌, pos, ◌<ℤ◌, [], ◌∷◌, ◌≡◌, ℕ, ◌+◌, ◌<◌, List, map, Result, Ok, Err, Option, Some, None, Vec, IsTrue}
+use Rattle.std.specs.Prelude.{◌⊎◌, pos, ◌<ℤ◌, [], ◌∷◌, ◌≡◌, ℕ, ◌+◌, ◌<◌, List, map, Result, Ok, Err, Option, Some, None, IsTrue}
 use Rattle.ring_laws.specs.Meaning.{Meaning}
 use Rattle.ring_laws.specs.Answer.{OnFault}
 use Rattle.ring_laws.specs.declared.faults.RingFault.{RingFault}
 use Rattle.whole_roots.specs.Differences.{polynomials}
 use Rattle.whole_roots.specs.LinearFactors.{Entry}
 use Rattle.kernel_laws.specs.Rows.{entry_at}
-use Rattle.kernel_laws.specs.RowSteps.{QuotientsInBounds}
 use Rattle.reducing.specs.TakenOut.{raised_to, times_row, TakingOutInBounds, AllTakingOutInBounds}
 use Rattle.reducing.specs.PolynomialRows.{Row, meant, IsLeastOf, forms, DivisionOfPolynomials, PolynomialsInBounds, IsCore, lead_number}
 
@@ -14,12 +13,6 @@ use Rattle.reducing.specs.PolynomialRows.{Row, meant, IsLeastOf, forms, Division
 abbrev pub LeastOf : List Meaning → ℕ → Option ℕ → Type 0
 LeastOf row n (Some place) = IsLeastOf row n place
 LeastOf row n None = (k : ℕ) → k < n → IsTrue (polynomials.ops.is_nought (entry_at polynomials.ops row k))
-
--- the quotients by t, or none where t doesn't divide every entry; `TooLarge` only where a division is not in bounds
-abbrev pub DividesEach : {T Z : Type 0} → (T → Meaning) → List Meaning → Meaning → Result (Option (Vec T Z)) RingFault → Type 0
-DividesEach meaning row t (Ok (Some quotients)) = row ≡ map (λ x. polynomials.ops.product (meaning x) t) quotients.items
-DividesEach meaning row t (Ok None) = (quotients : Row) → ¬ (row ≡ times_row polynomials t quotients)
-DividesEach meaning row t (Err fault) = OnFault (¬ (QuotientsInBounds DivisionOfPolynomials polynomials t row)) fault
 
 -- no greater power of t divides every entry of the row
 abbrev pub IsMost : Meaning → ℕ → List Meaning → Type 0

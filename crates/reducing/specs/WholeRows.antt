@@ -15,6 +15,12 @@ pub record WholeReduced (old new : List Meaning) : Type 0 where
   pub times : numbers ≡ map (λ q. pos content *ℤ q) quotients
   pub zeros_stay : content ≡ 0 → quotients ≡ numbers
 
+-- whole numbers whose greatest common divisor is 1
+pub record ArePrimitive (row : List Meaning) : Type 0 where
+  pub numbers : List ℤ
+  pub numbers_are : row ≡ map number numbers
+  pub is_content : IsContent (map unsigned_abs numbers) 1
+
 -- a number is its own plain part, and its core is 1
 pub record WholeSplit (x plain core : Meaning) : Type 0 where
   pub value : ℤ

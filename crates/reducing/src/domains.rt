@@ -1,6 +1,6 @@
 //! The trait of domains whose rows can be reduced.
 
-ghost use Rattle.std.specs.Prelude.{◌≡◌, map, IsFalse};
+ghost use Rattle.std.specs.Prelude.{◌≡◌, ◌↔◌, map, IsTrue, IsFalse};
 ghost use Rattle.kernel_laws.specs.Reduction.{Reduction, IsCoreBy, ReductionLaws};
 ghost use Rattle.reducing.specs.RowAnswer.{GivesRow, GivesPart, GivesParts};
 
@@ -17,6 +17,10 @@ pub trait Reducing: Domain {
     /// Of two entries that could be a pivot, elimination takes the one of less weight. It takes no memory.
     fn weight(&self) -> u32
         ensures weight { result ≡ reduction.weight (Self.meaning self.now) };
+
+    /// Whether the value is the one of the ring. It takes no memory.
+    fn is_one(&self) -> bool
+        ensures test { IsTrue result ↔ (Self.meaning self.now ≡ Self.algebra.ops.unit) };
 
     /// The row, reduced: of the same length, and something that isn't zero, times the new row, is the old row.
     ///
@@ -39,6 +43,15 @@ pub trait Reducing: Domain {
     fn core(&self, alloc: Global) -> Result<Self, RingFault>
         requires not_zero { IsFalse (Self.algebra.ops.is_nought (Self.meaning self.now)) }
         ensures core { GivesPart Self.meaning (IsCoreBy reduction (Self.meaning self.now)) (reduction.CoreInBounds (Self.meaning self.now)) result };
+
+    /// The plain part of a value that isn't zero, whose core is known.
+    ///
+    /// `TooLarge` comes only where a step of the splitting is out of bounds.
+    fn plain_part(&self, alloc: Global, core: &Self) -> Result<Self, RingFault>
+        requires not_zero { IsFalse (Self.algebra.ops.is_nought (Self.meaning self.now)) }
+        requires core { IsCoreBy reduction (Self.meaning self.now) (Self.meaning core.now) }
+        ensures plain { GivesPart Self.meaning (λ plain. reduction.Split (Self.meaning self.now) plain (Self.meaning core.now))
+            (reduction.SplitInBounds (Self.meaning self.now)) result };
 
     // The reduced row and the parts are as the calls say, and each is the only one.
     ghost reduction_laws: { ReductionLaws Self.algebra reduction };

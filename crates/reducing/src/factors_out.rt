@@ -1,55 +1,53 @@
 //! Taking linear factors out of a row of polynomials, each as often as it divides every entry.
 
-ghost use Rattle.std.specs.Prelude.{◌≡◌, ◌≢◌, ◌≤◌, ◌<◌, ◌^◌, pos, unsigned_abs, map, length, slice_get, Some};
+ghost use Rattle.std.specs.Prelude.{◌≡◌, ◌≢◌, ◌≤◌, ◌<◌, ◌^◌, pos, unsigned_abs, map, length, slice_get, Some, IfOk, IfErr, IsFalse};
 ghost use Rattle.std.specs.List.{AllByRecursion};
+ghost use Rattle.ring_laws.specs.declared.faults.RingFault.TheVariants.{Memory};
 ghost use Rattle.poly_divide.specs.Forms.{linear};
 ghost use Rattle.whole_roots.specs.Differences.{polynomials};
 ghost use Rattle.whole_roots.specs.LinearFactors.{Entry};
 ghost use Rattle.reducing.specs.RowAnswer.{GivesRow};
 ghost use Rattle.reducing.specs.TakenOut.{TakenOut, AllTakenOut};
 ghost use Rattle.reducing.specs.PolynomialRows.{OfRows, forms};
-ghost use Rattle.reducing.specs.PolynomialAnswers.{DividesEach, IsMost, FactorInBounds, FactorsOfRowInBounds};
+ghost use Rattle.reducing.specs.PolynomialAnswers.{IsMost, FactorInBounds, FactorsOfRowInBounds};
 
+use crate::row_divisions::divide_row;
 use indexmap::IndexMap;
-use poly_divide::divide_by_linear;
-use poly_generic::Zn;
-use ring_laws::{Ring, RingFault};
+use poly_generic::{Poly, Zn};
+use ring_laws::{Ring, RingFault, Whole};
 use std::alloc::Global;
 
-// Each entry divided by `u*n + v`, from the left; none where an entry has no quotient.
-fn divide_row(alloc: Global, row: &[Zn], u: u8, v: i128) -> Result<Option<Vec<Zn>>, RingFault>
+// The polynomial `u*n + v`.
+fn form_of(alloc: Global, u: u8, v: i128) -> Result<Zn, RingFault>
     requires slope { 1 ≤ u }
     requires offset { v ≢ i128.MIN }
-    ensures divides { DividesEach ⟦<Zn as Ring>⟧.meaning (map ⟦<Zn as Ring>⟧.meaning row.now) (linear (pos u) v) result }
+    ensures form { IfOk result (λ form. ⟦<Zn as Ring>⟧.meaning form ≡ linear (pos u) v) }
+    ensures memory { IfErr result (λ fault. fault ≡ Memory) }
 {
-    let mut quotients = Vec::new(alloc);
-    for entry in row {
-        match divide_by_linear(alloc, entry, u, v)? {
-            Some(quotient) => quotients.push(quotient)?,
-            None => return Ok(None),
-        }
-    }
-    Ok(Some(quotients))
+    let constant = Whole::new(v).unwrap();
+    let slope = Whole::new(i128::from(u)).unwrap();
+    let mut list = Vec::new(alloc);
+    list.push(constant)?;
+    list.push(slope)?;
+    Poly::from_coefficients(list)
 }
 
-// The row divided by `u*n + v` as often as that divides every entry, which is at most so often.
+// The row divided by the form as often as that divides every entry, which is at most so often.
 fn without_factor(
     alloc: Global,
     row: Vec<Zn>,
-    u: u8,
-    v: i128,
+    form: &Zn,
     most: u32,
 ) -> Result<Vec<Zn>, RingFault>
-    requires slope { 1 ≤ u }
-    requires offset { v ≢ i128.MIN }
-    requires most { IsMost (linear (pos u) v) most (map ⟦<Zn as Ring>⟧.meaning row.items) }
+    requires not_zero { IsFalse (polynomials.ops.is_nought (⟦<Zn as Ring>⟧.meaning form.now)) }
+    requires most { IsMost (⟦<Zn as Ring>⟧.meaning form.now) most (map ⟦<Zn as Ring>⟧.meaning row.items) }
     ensures takes_out { GivesRow ⟦<Zn as Ring>⟧.meaning
-        (OfRows (TakenOut polynomials (linear (pos u) v)) (map ⟦<Zn as Ring>⟧.meaning row.items))
-        (FactorInBounds (linear (pos u) v) (map ⟦<Zn as Ring>⟧.meaning row.items)) result }
+        (OfRows (TakenOut polynomials (⟦<Zn as Ring>⟧.meaning form.now)) (map ⟦<Zn as Ring>⟧.meaning row.items))
+        (FactorInBounds (⟦<Zn as Ring>⟧.meaning form.now) (map ⟦<Zn as Ring>⟧.meaning row.items)) result }
 {
     let mut rest = row;
     for _time in 0..most {
-        match divide_row(alloc, &rest, u, v)? {
+        match divide_row(alloc, &rest, form)? {
             Some(quotients) => rest = quotients,
             None => return Ok(rest),
         }
@@ -74,7 +72,10 @@ fn without_entry(
         (FactorInBounds (linear (pos x.0.0) x.0.1) (map ⟦<Zn as Ring>⟧.meaning row.items)) result }
 {
     match factors.get_index(index) {
-        Some((form, power)) => without_factor(alloc, row, form.0, form.1, *power),
+        Some((form, power)) => {
+            let form = form_of(alloc, form.0, form.1)?;
+            without_factor(alloc, row, &form, *power)
+        }
         None => Ok(row),
     }
 }

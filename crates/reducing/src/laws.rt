@@ -1,12 +1,14 @@
 //! What a reduction leaves, and so what the vectors of elimination have, as laws.
 
-ghost use Rattle.std.specs.Prelude.{List, ℕ};
+ghost use Rattle.std.specs.Prelude.{List, ℕ, All};
 ghost use Rattle.ring_laws.specs.Meaning.{Meaning};
+ghost use Rattle.ring_laws.specs.Wholes.{whole_algebra};
 ghost use Rattle.poly_divide.specs.Content.{row_sizes, IsContent};
 ghost use Rattle.whole_roots.specs.Differences.{polynomials};
 ghost use Rattle.kernel_laws.specs.Rows.{entry_at};
 ghost use Rattle.kernel_laws.specs.Kernels.{EndsAt};
-ghost use Rattle.kernel_laws.specs.Answers.{VectorOf};
+ghost use Rattle.kernel_laws.specs.Answers.{VectorOf, VectorsOf, Basis};
+ghost use Rattle.reducing.specs.WholeRows.{ArePrimitive, whole_reduction};
 ghost use Rattle.reducing.specs.PolynomialRows.{PolynomialsReduced, polynomial_reduction};
 ghost use Rattle.reducing.specs.NothingCommon.{HasNothingCommon};
 ghost use Rattle.reducing.specs.CommonForms.{HasNoCommonForm, IsSomeNonzero};
@@ -28,4 +30,13 @@ pub fn vectors_have_nothing_common()
     ensures law { (columns : ℕ) (rows : List (List Meaning)) (free : ℕ) (vector : List Meaning) →
         VectorOf polynomials polynomial_reduction columns rows free vector →
         EndsAt polynomials.ops columns (entry_at polynomials.ops vector) free → HasNothingCommon vector }
+{}
+
+/// Of the vectors of whole numbers that the steps give, none has a whole number above 1 that divides every entry.
+pub fn whole_vectors_are_primitive()
+    ensures vector { (columns : ℕ) (rows : List (List Meaning)) (free : ℕ) (vector : List Meaning) →
+        VectorOf whole_algebra whole_reduction columns rows free vector →
+        EndsAt whole_algebra.ops columns (entry_at whole_algebra.ops vector) free → ArePrimitive vector }
+    ensures basis { (columns : ℕ) (rows vectors : List (List Meaning)) → VectorsOf whole_algebra whole_reduction columns rows vectors →
+        Basis whole_algebra columns rows vectors → All ArePrimitive vectors }
 {}

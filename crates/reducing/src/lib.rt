@@ -3,7 +3,7 @@
 //! Input: a row of values, or one value. Output: the row reduced, or the value split into a plain part and a core.
 //! What a reduction has to give is in `specs/Reduction.antt` of `kernel_laws`; what it is for whole numbers is in
 //! `specs/WholeRows.antt`, and for polynomials in `specs/TakenOut.antt` and `specs/PolynomialRows.antt`.
-//! Read `domains.rt` (the trait), then `whole_rows.rt`; then `row_contents.rt`, `least_entries.rt`, `factors_out.rt` and
+//! Read `domains.rt` (the trait), then `whole_rows.rt`; then `row_divisions.rt`, `row_contents.rt`, `least_entries.rt`, `factors_out.rt` and
 //! `polynomial_rows.rt`, and last `laws.rt`.
 #![tactic(auto)]
 
@@ -13,10 +13,14 @@ mod laws;
 mod least_entries;
 mod polynomial_rows;
 mod row_contents;
+mod row_divisions;
 mod whole_rows;
 
 pub use domains::Reducing;
-pub use laws::{no_content_is_left, no_form_is_left, vectors_have_nothing_common};
+pub use row_divisions::divide_row;
+pub use laws::{
+    no_content_is_left, no_form_is_left, vectors_have_nothing_common, whole_vectors_are_primitive,
+};
 
 #[cfg(test)]
 mod tests;

@@ -5,7 +5,7 @@ ghost use Rattle.ring_laws.specs.declared.faults.RingFault.TheVariants.{Memory};
 ghost use Rattle.whole_roots.specs.Differences.{polynomials};
 ghost use Rattle.kernel_laws.specs.Reduction.{IsCoreBy};
 ghost use Rattle.reducing.specs.RowAnswer.{GivesRow, GivesPart, GivesParts};
-ghost use Rattle.reducing.specs.PolynomialRows.{lead_number, PolynomialsReduced, PolynomialsInBounds, PolynomialSplit, IsTimesContent, CoreInBounds, SplittingInBounds, polynomial_reduction};
+ghost use Rattle.reducing.specs.PolynomialRows.{lead_number, PolynomialsReduced, PolynomialsInBounds, PolynomialSplit, IsCore, IsTimesContent, CoreInBounds, SplittingInBounds, polynomial_reduction};
 ghost use Rattle.reducing.specs.PolynomialAnswers.{HasPositiveLead, GivesCore};
 ghost use Rattle.reducing.specs.SplitLaws.{polynomial_reduction_laws};
 
@@ -80,6 +80,19 @@ fn over_content(alloc: Global, f: &Zn) -> Result<(Zn, Whole), RingFault>
     Ok((quotients.remove(0), content))
 }
 
+// The plain part of a polynomial with this core: what the polynomial is over its content and the core, times the content.
+fn plain_beside(alloc: Global, f: &Zn, core: &Zn) -> Result<Zn, RingFault>
+    requires not_zero { IsFalse (polynomials.ops.is_nought (⟦<Zn as Ring>⟧.meaning f.now)) }
+    requires core { IsCore (⟦<Zn as Ring>⟧.meaning f.now) (⟦<Zn as Ring>⟧.meaning core.now) }
+    ensures plain { GivesPart ⟦<Zn as Ring>⟧.meaning (λ plain. PolynomialSplit (⟦<Zn as Ring>⟧.meaning f.now) plain (⟦<Zn as Ring>⟧.meaning core.now))
+        (SplittingInBounds (⟦<Zn as Ring>⟧.meaning f.now)) result }
+{
+    let (part, content) = over_content(alloc, f)?;
+    let quotient = part.divide_exact(alloc, core)?.unwrap();
+    let content = Zn::whole(alloc, content)?;
+    quotient.mul(alloc, &content)
+}
+
 impl Reducing for Zn {
     ghost reduction = { polynomial_reduction };
 
@@ -87,6 +100,11 @@ impl Reducing for Zn {
 
     fn weight(&self) -> u32 {
         degree_of(self)
+    }
+
+    fn is_one(&self) -> bool {
+        let list = self.coefficients();
+        list.len() == 1 && list[0].value() == 1
     }
 
     fn reduce_row(alloc: Global, row: Vec<Zn>) -> Result<Vec<Zn>, RingFault>
@@ -102,10 +120,7 @@ impl Reducing for Zn {
             (SplittingInBounds (⟦<Zn as Ring>⟧.meaning self.now)) result }
     {
         let core = core_of(alloc, self)?;
-        let (part, content) = over_content(alloc, self)?;
-        let quotient = part.divide_exact(alloc, &core)?.unwrap();
-        let content = Zn::whole(alloc, content)?;
-        let plain = quotient.mul(alloc, &content)?;
+        let plain = plain_beside(alloc, self, &core)?;
         Ok((plain, core))
     }
 
@@ -115,5 +130,14 @@ impl Reducing for Zn {
             (CoreInBounds (⟦<Zn as Ring>⟧.meaning self.now)) result }
     {
         core_of(alloc, self)
+    }
+    fn plain_part(&self, alloc: Global, core: &Zn) -> Result<Zn, RingFault>
+        requires not_zero { IsFalse (polynomials.ops.is_nought (⟦<Zn as Ring>⟧.meaning self.now)) }
+        requires core { IsCoreBy polynomial_reduction (⟦<Zn as Ring>⟧.meaning self.now) (⟦<Zn as Ring>⟧.meaning core.now) }
+        ensures plain { GivesPart ⟦<Zn as Ring>⟧.meaning
+            (λ plain. PolynomialSplit (⟦<Zn as Ring>⟧.meaning self.now) plain (⟦<Zn as Ring>⟧.meaning core.now))
+            (SplittingInBounds (⟦<Zn as Ring>⟧.meaning self.now)) result }
+    {
+        plain_beside(alloc, self, core)
     }
 }

@@ -11,6 +11,18 @@ use poly_generic::{Poly, Zn};
 use ring_laws::{Ring, RingFault, Whole};
 use std::alloc::Global;
 
+// The same numbers once more.
+fn copied(alloc: Global, list: &[Whole]) -> Result<Vec<Whole>, RingFault>
+    ensures copy { IfOk result (λ copy. copy.items ≡ list.now) }
+    ensures memory { IfErr result (λ fault. fault ≡ Memory) }
+{
+    let mut copy = Vec::new(alloc);
+    for number in list {
+        copy.push(*number)?;
+    }
+    Ok(copy)
+}
+
 // The quotient by a number that divides each coefficient.
 fn quotient_by(alloc: Global, f: &Zn, divisor: Whole) -> Result<Zn, RingFault>
     requires divides { DividesAll (unsigned_abs divisor.value) (sizes_of (⟦<Zn as Ring>⟧.meaning f.now)) }
@@ -19,8 +31,8 @@ fn quotient_by(alloc: Global, f: &Zn, divisor: Whole) -> Result<Zn, RingFault>
         ≡ polynomials.ops.product (⟦<Zn as Ring>⟧.meaning quotient) (polynomials.ops.whole divisor.value)) }
     ensures memory { IfErr result (λ fault. fault ≡ Memory) }
 {
-    let list = divided(alloc, f.coefficients(), divisor)?;
-    Poly::from_coefficients(list)
+    let list = copied(alloc, f.coefficients())?;
+    Poly::from_coefficients(divided(list, divisor))
 }
 
 // The quotients by a number that divides each coefficient of each entry.

@@ -45,20 +45,18 @@ fn content_of(row: &[Whole]) -> Whole
     content
 }
 
-// The quotients by a number that divides each number of the row.
-pub fn divided(alloc: Global, row: &[Whole], divisor: Whole) -> Result<Vec<Whole>, RingFault>
-    requires divides { DividesAll (unsigned_abs divisor.value) (map (λ number. unsigned_abs number.value) row.now) }
+// The quotients by a number that divides each number of the row, in its place.
+pub fn divided(row: Vec<Whole>, divisor: Whole) -> Vec<Whole>
+    requires divides { DividesAll (unsigned_abs divisor.value) (map (λ number. unsigned_abs number.value) row.items) }
     requires not_zero { divisor.value ≢ pos 0 }
-    ensures quotients { IfOk result (λ quotients. map (λ number. number.value) row.now
-        ≡ map (λ number. divisor.value *ℤ number.value) quotients.items) }
-    ensures memory { IfErr result (λ fault. fault ≡ Memory) }
+    ensures quotients { map (λ number. number.value) row.items ≡ map (λ number. divisor.value *ℤ number.value) result.items }
 {
-    let mut quotients = Vec::new(alloc);
-    for number in row {
-        let quotient = number.divide_exact(alloc, &divisor)?;
-        quotients.push(quotient.unwrap())?;
+    let mut quotients = row;
+    for at in 0..quotients.len() {
+        let quotient = quotients[at].whole_quotient(&divisor);
+        quotients[at] = quotient.unwrap();
     }
-    Ok(quotients)
+    quotients
 }
 
 impl Reducing for Whole {
@@ -70,15 +68,20 @@ impl Reducing for Whole {
         0
     }
 
-    // Never `TooLarge`, and no memory is wanted for a row whose content is 0 or 1.
-    fn reduce_row(alloc: Global, row: Vec<Whole>) -> Result<Vec<Whole>, RingFault>
+    fn is_one(&self) -> bool {
+        self.value() == 1
+    }
+
+    // Never `TooLarge`, and no memory is wanted: the row is divided in its place.
+    fn reduce_row(_alloc: Global, row: Vec<Whole>) -> Result<Vec<Whole>, RingFault>
         ensures reduces { GivesRow (λ whole. number whole.value) (WholeReduced (map (λ whole. number whole.value) row.items)) ⊤ result }
+        ensures always { IsOk result }
     {
         let content = content_of(&row);
         if content.value() <= 1 {
             return Ok(row);
         }
-        divided(alloc, &row, content)
+        Ok(divided(row, content))
     }
 
     fn split(&self, alloc: Global) -> Result<(Whole, Whole), RingFault>
@@ -96,5 +99,13 @@ impl Reducing for Whole {
         ensures always { IsOk result }
     {
         Whole::one(alloc)
+    }
+    fn plain_part(&self, _alloc: Global, _core: &Whole) -> Result<Whole, RingFault>
+        requires not_zero { IsFalse (is_zero self.now.value) }
+        requires core { IsCoreBy whole_reduction (number self.now.value) (number _core.now.value) }
+        ensures plain { GivesPart (λ whole. number whole.value) (λ plain. WholeSplit (number self.now.value) plain (number _core.now.value)) ⊤ result }
+        ensures always { IsOk result }
+    {
+        Ok(*self)
     }
 }

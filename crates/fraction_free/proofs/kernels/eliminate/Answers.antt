@@ -4,10 +4,14 @@ use Rattle.kernel_laws.specs.BackSubstitution.{BackRun}
 use Rattle.kernel_laws.specs.Answers.{AllPivots}
 use Rattle.kernel_laws.proofs.OneVector.{one_vector}
 use Rattle.fraction_free.specs.RowAnswers.{rows_meant}
-use Rattle.fraction_free.specs.RoundAnswers.{pivots_meant, RanTo}
+use Rattle.fraction_free.specs.RoundAnswers.{pivots_meant, HasCore, RanTo}
 use Rattle.fraction_free.proofs.PivotColumns.{pivots_length}
 use Rattle.fraction_free.proofs.Finish.{pivots_well, few_pivots, left_side, right_side}
 use Rattle.fraction_free.proofs.kernels.eliminate.Goals as goal
+
+pub free_vector-requires-clause-cores : goal.free_vector-requires-clause-cores
+free_vector-requires-clause-cores g c =
+    subst (All (HasCore g.R.Ring.meaning g.R.Ring.algebra g.R.Reducing.reduction)) (sym c.deref.ensures.value) c.in_ok-found.ensures.cores
 
 pub free_vector-requires-clause-pivot_rows : goal.free_vector-requires-clause-pivot_rows
 free_vector-requires-clause-pivot_rows g c =

@@ -6,7 +6,7 @@ use Rattle.kernel_laws.specs.BackSubstitution.{BackRun, BackInBounds, FreeVector
 use Rattle.kernel_laws.specs.Answers.{Basis}
 use Rattle.kernel_laws.proofs.OneVector.{one_basis}
 use Rattle.fraction_free.specs.RowAnswers.{rows_meant}
-use Rattle.fraction_free.specs.RoundAnswers.{pivots_meant}
+use Rattle.fraction_free.specs.RoundAnswers.{pivots_meant, HasCore}
 use Rattle.fraction_free.proofs.ManyRows.{fault_rows}
 use Rattle.fraction_free.proofs.RowLemmas.{refused}
 use Rattle.fraction_free.proofs.Finish.{pivots_well, basis_side, through_all}
@@ -23,6 +23,10 @@ loop-column-init g c =
       made = start_none g.R.Ring.algebra g.R.Reducing.reduction c.args.columns (pivots_meant M c.in_ok-found.found.pivots.items)
           (rows_meant M c.new-vectors.result.items) (ap (rows_meant M) c.new-vectors.ensures.items);
     }
+
+pub free_vector-requires-clause-cores : goal.free_vector-requires-clause-cores
+free_vector-requires-clause-cores g c =
+    subst (All (HasCore g.R.Ring.meaning g.R.Ring.algebra g.R.Reducing.reduction)) (sym c.deref-then-not-is_pivot.ensures.value) c.in_ok-found.ensures.cores
 
 pub free_vector-requires-clause-pivot_rows : goal.free_vector-requires-clause-pivot_rows
 free_vector-requires-clause-pivot_rows g c =

@@ -1,15 +1,17 @@
-use Rattle.std.proofs.Common.{◌≡◌, map, IsFalse, sym, ap, ◌∙◌, subst, arith}
+use Rattle.std.proofs.Common.{◌≡◌, map, length, IsFalse, sym, ap, ◌∙◌, subst, arith, All}
+use Rattle.std.proofs.lemmas.List.Elements.{All-push}
 use Rattle.std.proofs.lemmas.List.{map_push}
+use Rattle.kernel_laws.specs.Rows.{entry_at}
 use Rattle.kernel_laws.specs.Pivots.{ArePivotColumns}
 use Rattle.kernel_laws.specs.Elimination.{Run, pass, Chosen, IsFree, RunInBounds}
 use Rattle.kernel_laws.proofs.RunSizes.{run_sizes}
 use Rattle.fraction_free.specs.RowAnswers.{rows_meant}
-use Rattle.fraction_free.specs.RoundAnswers.{pivots_meant, RanTo}
-use Rattle.fraction_free.proofs.PivotColumns.{one_more_pivot, none_later}
+use Rattle.fraction_free.specs.RoundAnswers.{pivots_meant, HasCore, RanTo}
+use Rattle.fraction_free.proofs.PivotColumns.{one_more_pivot, none_later, of_error}
 use Rattle.fraction_free.proofs.ManyRows.{sizes_up, sizes_down}
 use Rattle.fraction_free.proofs.Columns.{fault_pivots, unit_isnt, run_begin, run_pass, run_climb, round_not, round_core}
 use Rattle.fraction_free.proofs.rounds.pivot_rows.Goals as goal
-use Rattle.fraction_free.proofs.rounds.pivot_rows.Goals.{in-Some+in_ok-next-in-Some+in_ok-push-in-Some, in-None+else-first-column}
+use Rattle.fraction_free.proofs.rounds.pivot_rows.Goals.{in-Some+in_ok-next-in-Some+in_ok-core-in-Some+in_ok-push-in-Some, in-None+else-first-column}
 
 pub loop-column-init : goal.loop-column-init
 loop-column-init g c =
@@ -22,6 +24,7 @@ loop-column-init g c =
       sizes = sizes_down M c.args.columns c.in_ok-open.open.items
           (run_sizes g.R.Ring.algebra g.R.Reducing.reduction g.met.R.Reducing.reduction_laws c.args.columns rows (sizes_up M c.args.columns c.args.rows.items c.requires.sizes) run).rows;
       run = run;
+      cores = λ k d b. absurd (omega (arith, b, ap length c.new-pivots.ensures.items));
       pivot_columns = λ i b d. absurd (omega (arith, d));
       not_zero = unit_isnt g.R.Ring.algebra g.met.R.Ring.laws g.met.R.Domain.domain_laws (M c.in_ok-divisor.divisor) c.in_ok-divisor.ensures.gives;
     }
@@ -38,6 +41,7 @@ returns-in_err-next-in-Some g c =
           (round_not g.R.Ring.algebra g.R.Reducing.reduction rows g.R.Domain.division_in_bounds c.args.columns c.args.first c.loop-column.column c.in-Some.place
           (rows_meant M c.loop-column.open.items) (pivots_meant M c.loop-column.pivots.items) (M c.loop-column.divisor) c.in_err-next-in-Some.field-0.0
           c.loop-column-test.true c.loop-column.invariant.pivot_columns c.loop-column.invariant.run chosen c.in_err-next-in-Some.ensures.clears);
+      cores = of_error _ c.from_residual-in_err-next-in-Some.result c.in_err-next-in-Some.field-0.0 c.from_residual-in_err-next-in-Some.ensures.1;
     }
 
 pub loop-column-preserved : goal.loop-column-preserved
@@ -46,10 +50,10 @@ loop-column-preserved g c =
     let rows = rows_meant M c.args.rows.items in
     let sized = sizes_up M c.args.columns c.args.rows.items c.requires.sizes in
     elim c.match-choose_pivot.branch [
-      | in-Some+in_ok-next-in-Some+in_ok-push-in-Some w ↦
+      | in-Some+in_ok-next-in-Some+in_ok-core-in-Some+in_ok-push-in-Some w ↦
           let chosen = subst (λ v. Chosen g.R.Ring.algebra g.R.Reducing.reduction c.loop-column.column (rows_meant M v) w.in-Some.place) c.deref.ensures.value w.in-Some.ensures.picks in
           let pivots_are = ap (λ o. pivots_meant M o.items) w.pivots-is ∙ ap (pivots_meant M) w.in_ok-push-in-Some.ensures.items
-          ∙ map_push (λ p. (p.column, map M p.row.items)) c.loop-column.pivots.items (record { column = c.loop-column.column; row = w.in_ok-next-in-Some.next.pivot }) in
+          ∙ map_push (λ p. (p.column, map M p.row.items)) c.loop-column.pivots.items (record { column = c.loop-column.column; row = w.in_ok-next-in-Some.next.pivot; core = w.in_ok-core-in-Some.core }) in
           let run = run_climb g.R.Ring.algebra g.R.Reducing.reduction rows c.loop-column.column w.in-Some.place (rows_meant M c.loop-column.open.items)
           (rows_meant M w.in_ok-next-in-Some.next.open.items) (rows_meant M c.match-choose_pivot.open.items) (pivots_meant M c.loop-column.pivots.items)
           (pivots_meant M c.match-choose_pivot.pivots.items) (M c.loop-column.divisor) (M w.in_ok-next-in-Some.next.core) (M c.match-choose_pivot.divisor)
@@ -62,6 +66,15 @@ loop-column-preserved g c =
             sizes = sizes_down M c.args.columns c.match-choose_pivot.open.items
                 (run_sizes g.R.Ring.algebra g.R.Reducing.reduction g.met.R.Reducing.reduction_laws c.args.columns rows sized run).rows;
             run = run;
+            cores = subst (All (HasCore M g.R.Ring.algebra g.R.Reducing.reduction))
+                (sym (ap (λ o. o.items) w.pivots-is ∙ w.in_ok-push-in-Some.ensures.items))
+                (All-push (HasCore M g.R.Ring.algebra g.R.Reducing.reduction) c.loop-column.pivots.items
+                (record { column = c.loop-column.column; row = w.in_ok-next-in-Some.next.pivot; core = w.in_ok-core-in-Some.core })
+                c.loop-column.invariant.cores (record {
+                  plain = w.in_ok-next-in-Some.ensures.clears.plain;
+                  split = subst (g.R.Reducing.reduction.Split (entry_at g.R.Ring.algebra.ops (map M w.in_ok-next-in-Some.next.pivot.items) c.loop-column.column)
+                      w.in_ok-next-in-Some.ensures.clears.plain) (sym w.in_ok-core-in-Some.ensures.gives) w.in_ok-next-in-Some.ensures.clears.split;
+                }));
             pivot_columns = one_more_pivot c.args.first c.loop-column.column (map M w.in_ok-next-in-Some.next.pivot.items)
                 (pivots_meant M c.loop-column.pivots.items) (pivots_meant M c.match-choose_pivot.pivots.items) pivots_are
                 c.loop-column.invariant.pivot_columns;
@@ -81,6 +94,7 @@ loop-column-preserved g c =
             sizes = sizes_down M c.args.columns c.match-choose_pivot.open.items
                 (run_sizes g.R.Ring.algebra g.R.Reducing.reduction g.met.R.Reducing.reduction_laws c.args.columns rows sized run).rows;
             run = run;
+            cores = subst (All (HasCore M g.R.Ring.algebra g.R.Reducing.reduction)) (sym (ap (λ o. o.items) w.pivots-is)) c.loop-column.invariant.cores;
             pivot_columns = λ i b d. absurd (omega (arith, b, d, w.if-first-column.false));
             not_zero = subst (λ v. IsFalse (g.R.Ring.algebra.ops.is_nought (M v))) (sym w.divisor-is) c.loop-column.invariant.not_zero;
           }
@@ -109,6 +123,7 @@ returns-then-first-column g c =
           before = c.loop-column.invariant.pivot_columns;
         },
       );
+      cores = c.loop-column.invariant.cores;
     }
 
 pub returns : goal.returns
@@ -125,4 +140,5 @@ returns g c =
         },
         subst (λ j. ArePivotColumns c.args.first j (pivots_meant M c.loop-column.pivots.items)) e c.loop-column.invariant.pivot_columns,
       );
+      cores = c.loop-column.invariant.cores;
     }

@@ -1,8 +1,8 @@
 use Rattle.std.proofs.Common.{◌<◌, ◌∙◌, ap, subst, map, length, arith, Ok}
 use Rattle.kernel_laws.specs.RowSteps.{crossed, CrossingInBounds, NoQuotients}
 use Rattle.ring_laws.specs.Answer.{OnFault}
-use Rattle.fraction_free.specs.RowAnswers.{DividesRow}
-use Rattle.fraction_free.proofs.RowLemmas.{fault_cleared, crossing_not, refused, zero_stays, crossed_is, division_not, gives_cleared, divided_is, kept_is}
+use Rattle.reducing.specs.RowAnswer.{DividesRow}
+use Rattle.fraction_free.proofs.RowLemmas.{fault_cleared, crossing_not, refused, zero_stays, crossed_is, division_not, gives_cleared, divided_is, kept_is, whole_is}
 use Rattle.fraction_free.proofs.rows.clear_row.Goals as goal
 
 pub returns-then-is_zero : goal.returns-then-is_zero
@@ -29,6 +29,25 @@ returns-in_err-crossed g c =
           c.index-pivot-column.is c.index-2.ensures
           (subst (λ v. OnFault (¬ (CrossingInBounds g.R.Ring.algebra (M c.index-pivot-column.result) (map M v) (M c.index-2.result.now)
           (map M c.args.pivot.now))) c.in_err-crossed.field-0.0) c.deref.ensures.value c.in_err-crossed.ensures.gives));
+    }
+
+pub returns-then-is_one : goal.returns-then-is_one
+returns-then-is_one g c =
+    let M = g.R.Ring.meaning in
+    let b : c.args.column < length c.args.pivot.now = omega (arith, c.requires.within, c.requires.size) in
+    let n = refused c.is_zero.result c.if-is_zero.false c.is_zero.ensures.test.1 in
+    let e = crossed_is g.R.Ring.algebra M g.met.R.Ring.passes g.R.Domain.division_in_bounds g.R.Reducing.reduction
+    (M c.args.divisor.now) c.args.column c.args.pivot.now c.args.row.items
+    (map M c.in_ok-crossed.crossed.items) c.index-pivot-column.result c.index-2.result.now b c.requires.within c.index-pivot-column.is c.index-2.ensures
+    (c.in_ok-crossed.ensures.gives ∙ ap (λ v. crossed g.R.Ring.algebra.ops (M c.index-pivot-column.result) (map M v) (M c.index-2.result.now)
+    (map M c.args.pivot.now)) c.deref.ensures.value) in
+    record {
+      clears = gives_cleared g.R.Ring.algebra M g.met.R.Ring.passes g.R.Domain.division_in_bounds g.R.Reducing.reduction
+          (M c.args.divisor.now) c.args.column c.args.pivot.now c.args.row.items
+          c.index.result.now c.requires.within c.index.ensures n c.in_ok-crossed.crossed.items c.reduce_row.result
+          (whole_is g.R.Ring.algebra M g.met.R.Ring.passes g.R.Domain.division_in_bounds g.R.Reducing.reduction
+          (M c.args.divisor.now) c.args.column c.args.pivot.now c.args.row.items g.met.R.Ring.laws c.in_ok-crossed.crossed.items
+          (c.is_one.ensures.test.0 c.if-is_one.true) e) c.reduce_row.ensures.reduces;
     }
 
 pub returns-in_err-quotients : goal.returns-in_err-quotients
@@ -66,10 +85,10 @@ returns-in-Some g c =
     record {
       clears = gives_cleared g.R.Ring.algebra M g.met.R.Ring.passes g.R.Domain.division_in_bounds g.R.Reducing.reduction
           (M c.args.divisor.now) c.args.column c.args.pivot.now c.args.row.items
-          c.index.result.now c.requires.within c.index.ensures n c.in-Some.quotients.items c.reduce_row.result
+          c.index.result.now c.requires.within c.index.ensures n c.in-Some.quotients.items c.reduce_row-in-Some.result
           (divided_is g.R.Ring.algebra M g.met.R.Ring.passes g.R.Domain.division_in_bounds g.R.Reducing.reduction
           (M c.args.divisor.now) c.args.column c.args.pivot.now c.args.row.items
-          (map M c.deref-2.result.now) (map M c.in-Some.quotients.items) (ap (map M) c.deref-2.ensures.value ∙ e) q) c.reduce_row.ensures.reduces;
+          (map M c.deref-2.result.now) (map M c.in-Some.quotients.items) (ap (map M) c.deref-2.ensures.value ∙ e) q) c.reduce_row-in-Some.ensures.reduces;
     }
 
 pub returns : goal.returns

@@ -12,10 +12,10 @@ absorb-requires g c =
     let A = g.R.Ring.algebra.ops in
     let en = sym (at_item A M c.args.row.now c.args.column c.index-row-column.result (omega (arith, c.requires.within, c.requires.same_length))
     c.index-row-column.is) in
-    let s = subst (λ v. g.R.Reducing.reduction.Split v (M c.in_ok-plain.plain) (M c.in_ok-plain.core)) en c.in_ok-plain.ensures.splits in
+    let s = subst (λ v. g.R.Reducing.reduction.Split v (M c.in_ok-plain.plain) (M c.args.core.now)) en c.in_ok-plain.ensures.plain in
     record {
       not_zero = core_isnt g.R.Ring.algebra g.R.Reducing.reduction g.met.R.Reducing.reduction_laws g.met.R.Ring.laws
-          (entry_at A (map M c.args.row.now) c.args.column) (M c.in_ok-plain.plain) (M c.in_ok-plain.core) s c.requires.not_zero
+          (entry_at A (map M c.args.row.now) c.args.column) (M c.in_ok-plain.plain) (M c.args.core.now) s c.requires.not_zero
           (entry_belongs g.R.Ring.algebra g.met.R.Ring.laws M g.met.R.Ring.passes c.args.row.now c.args.column);
     }
 
@@ -25,14 +25,14 @@ returns-in_err-by_core g c =
     let A = g.R.Ring.algebra.ops in
     let en = sym (at_item A M c.args.row.now c.args.column c.index-row-column.result (omega (arith, c.requires.within, c.requires.same_length))
     c.index-row-column.is) in
-    let s = subst (λ v. g.R.Reducing.reduction.Split v (M c.in_ok-plain.plain) (M c.in_ok-plain.core)) en c.in_ok-plain.ensures.splits in
+    let s = subst (λ v. g.R.Reducing.reduction.Split v (M c.in_ok-plain.plain) (M c.args.core.now)) en c.in_ok-plain.ensures.plain in
     let number = number_is M g.R.Ring.algebra g.R.Reducing.reduction g.R.Domain.division_in_bounds c.args.column c.args.row.now c.args.vector.items
     (M c.in_ok-sum.sum) (M c.in_ok-number.number) c.deref.result.now c.deref.ensures.value c.in_ok-sum.ensures.gives c.in_ok-number.ensures.gives in
     record {
       steps = fault_step M g.R.Ring.algebra g.R.Reducing.reduction g.R.Domain.division_in_bounds c.args.column c.args.row.now c.args.vector.items
           c.from_residual-in_err-by_core.result c.in_err-by_core.field-0.0 c.from_residual-in_err-by_core.ensures.1
           (core_not M g.R.Ring.algebra g.R.Reducing.reduction g.R.Domain.division_in_bounds c.args.column c.args.row.now c.args.vector.items
-          (M c.in_ok-plain.plain) (M c.in_ok-plain.core) s (M c.in_ok-number.number) c.in_err-by_core.field-0.0 number c.in_err-by_core.ensures.absorbs);
+          (M c.in_ok-plain.plain) (M c.args.core.now) s (M c.in_ok-number.number) c.in_err-by_core.field-0.0 number c.in_err-by_core.ensures.absorbs);
     }
 
 pub absorb-requires-2 : goal.absorb-requires-2
@@ -41,10 +41,10 @@ absorb-requires-2 g c =
     let A = g.R.Ring.algebra.ops in
     let en = sym (at_item A M c.args.row.now c.args.column c.index-row-column.result (omega (arith, c.requires.within, c.requires.same_length))
     c.index-row-column.is) in
-    let s = subst (λ v. g.R.Reducing.reduction.Split v (M c.in_ok-plain.plain) (M c.in_ok-plain.core)) en c.in_ok-plain.ensures.splits in
+    let s = subst (λ v. g.R.Reducing.reduction.Split v (M c.in_ok-plain.plain) (M c.args.core.now)) en c.in_ok-plain.ensures.plain in
     record {
       not_zero = plain_isnt g.R.Ring.algebra g.R.Reducing.reduction g.met.R.Reducing.reduction_laws g.met.R.Ring.laws
-          (entry_at A (map M c.args.row.now) c.args.column) (M c.in_ok-plain.plain) (M c.in_ok-plain.core) s c.requires.not_zero
+          (entry_at A (map M c.args.row.now) c.args.column) (M c.in_ok-plain.plain) (M c.args.core.now) s c.requires.not_zero
           (entry_belongs g.R.Ring.algebra g.met.R.Ring.laws M g.met.R.Ring.passes c.args.row.now c.args.column);
     }
 
@@ -54,14 +54,14 @@ returns-in_err-by_plain g c =
     let A = g.R.Ring.algebra.ops in
     let en = sym (at_item A M c.args.row.now c.args.column c.index-row-column.result (omega (arith, c.requires.within, c.requires.same_length))
     c.index-row-column.is) in
-    let s = subst (λ v. g.R.Reducing.reduction.Split v (M c.in_ok-plain.plain) (M c.in_ok-plain.core)) en c.in_ok-plain.ensures.splits in
+    let s = subst (λ v. g.R.Reducing.reduction.Split v (M c.in_ok-plain.plain) (M c.args.core.now)) en c.in_ok-plain.ensures.plain in
     let number = number_is M g.R.Ring.algebra g.R.Reducing.reduction g.R.Domain.division_in_bounds c.args.column c.args.row.now c.args.vector.items
     (M c.in_ok-sum.sum) (M c.in_ok-number.number) c.deref.result.now c.deref.ensures.value c.in_ok-sum.ensures.gives c.in_ok-number.ensures.gives in
     record {
       steps = fault_step M g.R.Ring.algebra g.R.Reducing.reduction g.R.Domain.division_in_bounds c.args.column c.args.row.now c.args.vector.items
           c.from_residual-in_err-by_plain.result c.in_err-by_plain.field-0.0 c.from_residual-in_err-by_plain.ensures.1
           (plain_not M g.R.Ring.algebra g.R.Reducing.reduction g.R.Domain.division_in_bounds c.args.column c.args.row.now c.args.vector.items
-          (M c.in_ok-plain.plain) (M c.in_ok-plain.core) s (M c.in_ok-number.number) (M c.in_ok-by_core.by_core.rest)
+          (M c.in_ok-plain.plain) (M c.args.core.now) s (M c.in_ok-number.number) (M c.in_ok-by_core.by_core.rest)
           (map M c.in_ok-by_core.by_core.vector.items) c.in_err-by_plain.field-0.0 number c.in_ok-by_core.ensures.absorbs
           c.in_err-by_plain.ensures.absorbs);
     }
@@ -87,12 +87,12 @@ returns g c =
     let A = g.R.Ring.algebra.ops in
     let en = sym (at_item A M c.args.row.now c.args.column c.index-row-column.result (omega (arith, c.requires.within, c.requires.same_length))
     c.index-row-column.is) in
-    let s = subst (λ v. g.R.Reducing.reduction.Split v (M c.in_ok-plain.plain) (M c.in_ok-plain.core)) en c.in_ok-plain.ensures.splits in
+    let s = subst (λ v. g.R.Reducing.reduction.Split v (M c.in_ok-plain.plain) (M c.args.core.now)) en c.in_ok-plain.ensures.plain in
     let number = number_is M g.R.Ring.algebra g.R.Reducing.reduction g.R.Domain.division_in_bounds c.args.column c.args.row.now c.args.vector.items
     (M c.in_ok-sum.sum) (M c.in_ok-number.number) c.deref.result.now c.deref.ensures.value c.in_ok-sum.ensures.gives c.in_ok-number.ensures.gives in
     record {
       steps = step_made M g.R.Ring.algebra g.R.Reducing.reduction g.R.Domain.division_in_bounds c.args.column c.args.row.now c.args.vector.items
-          (M c.in_ok-plain.plain) (M c.in_ok-plain.core) s (M c.in_ok-number.number) (M c.in_ok-by_core.by_core.rest)
+          (M c.in_ok-plain.plain) (M c.args.core.now) s (M c.in_ok-number.number) (M c.in_ok-by_core.by_core.rest)
           (M c.in_ok-by_plain.by_plain.rest) (map M c.in_ok-by_core.by_core.vector.items) (map M c.in_ok-by_plain.by_plain.vector.items)
           _ c.reduce_row.result number c.in_ok-by_core.ensures.absorbs c.in_ok-by_plain.ensures.absorbs
           (placed_is M c.in_ok-by_plain.by_plain.vector.items _ c.args.column c.in_ok-by_plain.by_plain.rest refl)

@@ -1,8 +1,8 @@
-use Rattle.std.specs.Prelude.{pos, ◌≤◌}
-use Rattle.poly_divide.specs.Forms.{linear}
+use Rattle.std.specs.Prelude.{◌≤◌}
+use Rattle.reducing.proofs.Polynomials.{sense}
 use Rattle.reducing.proofs.WithoutFactor.{IsLeft}
 use Rattle.reducing.proofs.factors_out.without_factor.Given as goal
 
 -- the row is what is left times a power of the form
 abbrev pub invariant-loop-time : goal.invariant-loop-time
-invariant-loop-time l = record { within : l._time ≤ l.most; left : IsLeft (linear (pos l.u) l.v) l._time l.fn.row.items l.rest.items }
+invariant-loop-time l = record { within : l._time ≤ l.most; left : IsLeft (sense l.form) l._time l.fn.row.items l.rest.items }

@@ -1,6 +1,6 @@
-use Rattle.std.proofs.Common.{◌≡◌, ◌*ℤ◌, map, take}
+use Rattle.reducing.proofs.DividedInPlace.{DividedTo}
 use Rattle.reducing.proofs.whole_rows.divided.Given as goal
 
--- the numbers that are behind the loop are the divisor times the quotients
-abbrev pub invariant-loop-number : goal.invariant-loop-number
-invariant-loop-number l = map (λ number. number.value) (take l.number-index l.row) ≡ map (λ number. l.divisor.value *ℤ number.value) l.quotients.items
+-- the numbers before the place are divided, the others are as they were
+abbrev pub invariant-loop-at : goal.invariant-loop-at
+invariant-loop-at l = DividedTo l.fn.row.items l.divisor.value l.at l.quotients.items

@@ -1,6 +1,6 @@
 use Rattle.std.proofs.Common.{map, take}
 use Rattle.kernel_laws.specs.RowSteps.{Quotients}
-use Rattle.fraction_free.proofs.rows.divide_row.Given as goal
+use Rattle.reducing.proofs.row_divisions.divide_row.Given as goal
 
 -- the quotients of the entries that are behind the loop
 abbrev pub invariant-loop-entry : goal.invariant-loop-entry

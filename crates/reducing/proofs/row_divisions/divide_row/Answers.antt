@@ -1,7 +1,7 @@
 use Rattle.std.proofs.Common.{subst, Ok}
 use Rattle.ring_laws.specs.Division.{Divides}
-use Rattle.fraction_free.proofs.RowLemmas.{fault_divides, quotient_not, quotients_more}
-use Rattle.fraction_free.proofs.rows.divide_row.Goals as goal
+use Rattle.reducing.proofs.RowDivisions.{fault_divides, quotient_not, quotients_more}
+use Rattle.reducing.proofs.row_divisions.divide_row.Goals as goal
 
 pub returns-in_err-quotient : goal.returns-in_err-quotient
 returns-in_err-quotient g c =
