@@ -131,6 +131,7 @@ impl Reducing for Zn {
     {
         core_of(alloc, self)
     }
+
     fn plain_part(&self, alloc: Global, core: &Zn) -> Result<Zn, RingFault>
         requires not_zero { IsFalse (polynomials.ops.is_nought (⟦<Zn as Ring>⟧.meaning self.now)) }
         requires core { IsCoreBy polynomial_reduction (⟦<Zn as Ring>⟧.meaning self.now) (⟦<Zn as Ring>⟧.meaning core.now) }

@@ -100,6 +100,7 @@ impl Reducing for Whole {
     {
         Whole::one(alloc)
     }
+
     fn plain_part(&self, _alloc: Global, _core: &Whole) -> Result<Whole, RingFault>
         requires not_zero { IsFalse (is_zero self.now.value) }
         requires core { IsCoreBy whole_reduction (number self.now.value) (number _core.now.value) }
