@@ -18,7 +18,7 @@ use Rattle.kernel_laws.specs.Rows.{entry_at}
 use Rattle.reducing.specs.RowAnswer.{GivesRow}
 use Rattle.reducing.specs.TakenOut.{raised_to, times_row, AllTakenOut, AllTakingOutInBounds}
 use Rattle.reducing.specs.PolynomialRows.{Row, meant, IsLeast, IsLeastOf, WithoutContent, FactorsOfLeast, forms, stays, divides, OfRows, PolynomialsReduced, PolynomialsInBounds, DivisionOfPolynomials}
-use Rattle.reducing.specs.FactorLists.{P, form_power_is}
+use Rattle.reducing.specs.Laws.FactorLists.{P, form_power_is}
 use Rattle.reducing.specs.PolynomialAnswers.{LeastOf, IsMost, FactorsOfRowInBounds}
 use Rattle.reducing.proofs.Polynomials.{Zn, sense, senses, row_of, row_meant}
 use Rattle.reducing.proofs.WithoutFactor.{row_is, products_are, entry_of_times}

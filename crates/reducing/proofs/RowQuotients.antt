@@ -11,7 +11,6 @@ use Rattle.kernel_laws.specs.Rows.{entry_at}
 use Rattle.kernel_laws.specs.RowSteps.{HasQuotient, QuotientsInBounds}
 use Rattle.reducing.specs.TakenOut.{times_row}
 use Rattle.reducing.specs.PolynomialRows.{Row, DivisionOfPolynomials}
-use Rattle.reducing.specs.PolynomialAnswers.{DividesEach}
 use Rattle.reducing.proofs.Polynomials.{Zn, sense, sense_passes, senses}
 
 -- the row is the products with t

@@ -33,12 +33,7 @@ fn form_of(alloc: Global, u: u8, v: i128) -> Result<Zn, RingFault>
 }
 
 // The row divided by the form as often as that divides every entry, which is at most so often.
-fn without_factor(
-    alloc: Global,
-    row: Vec<Zn>,
-    form: &Zn,
-    most: u32,
-) -> Result<Vec<Zn>, RingFault>
+fn without_factor(alloc: Global, row: Vec<Zn>, form: &Zn, most: u32) -> Result<Vec<Zn>, RingFault>
     requires not_zero { IsFalse (polynomials.ops.is_nought (⟦<Zn as Ring>⟧.meaning form.now)) }
     requires most { IsMost (⟦<Zn as Ring>⟧.meaning form.now) most (map ⟦<Zn as Ring>⟧.meaning row.items) }
     ensures takes_out { GivesRow ⟦<Zn as Ring>⟧.meaning
