@@ -1,20 +1,12 @@
 -- Rows times a power of one value.
 -- These are lemmas: they stand in specs/, since the laws that `Reducing` names rest on them.
-use Rattle.std.specs.Prelude.{◌≡◌, ℕ, zero, suc, ◌+◌, ◌-◌, ◌≤◌, pos, List, [], ◌∷◌, map, length, IsTrue, refl}
-use Rattle.std.specs.List.{AllByRecursion}
-use Rattle.std.proofs.Common.{ap, sym, ◌∙◌, subst, arith, ⊎_elim}
-use Rattle.std.proofs.lemmas.Bool.{cases_lt}
-use Rattle.ring_laws.specs.Meaning.{Meaning}
-use Rattle.ring_laws.specs.Algebra.{Ops, Algebra, Passing, within, Laws, same_passing}
+use Rattle.std.specs.Prelude.{◌≡◌, ℕ, zero, suc, ◌+◌, ◌-◌, ◌≤◌, List, [], ◌∷◌, refl}
+use Rattle.std.proofs.Common.{ap, sym, ◌∙◌, subst, arith}
+use Rattle.ring_laws.specs.Algebra.{Ops, Algebra, Passing, within, Laws}
 use Rattle.ring_laws.specs.Division.{DomainLaws}
-use Rattle.poly_laws.proofs.Coefficients.{meanings_same}
-use Rattle.poly_laws.proofs.ListLaws.{product_nought}
-use Rattle.poly_laws.proofs.PolyDomain.{no_divisors_within}
-use Rattle.kernel_laws.specs.Rows.{entry_at}
-use Rattle.kernel_laws.specs.Reduction.{Reduces, bare}
-use Rattle.kernel_laws.proofs.Cancelling.{cancel_factor}
-use Rattle.reducing.specs.TakenOut.{raised_to, times_row, TakenOut, AllTakenOut, none, next}
-use Rattle.reducing.specs.Laws.ScaledRows.{scaled, bare_scaled, scaled_is, is_scaled, cancel_row, scaled_twice, unit_not_nought, product_not_nought}
+use Rattle.kernel_laws.specs.Reduction.{bare}
+use Rattle.reducing.specs.TakenOut.{raised_to, times_row, TakenOut}
+use Rattle.reducing.specs.Laws.ScaledRows.{scaled, scaled_is, is_scaled, cancel_row, scaled_twice, unit_not_nought, product_not_nought}
 
 module _ (a : Algebra) (l : Laws a) (d : DomainLaws a) where
   abbrev W : Ops (Passing a)

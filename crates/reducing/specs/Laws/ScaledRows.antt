@@ -1,19 +1,14 @@
 -- Rows times one value of a domain: such a value that isn't zero cancels.
 -- These are lemmas: they stand in specs/, since the laws that `Reducing` names rest on them.
-use Rattle.std.specs.Prelude.{◌≡◌, ℕ, zero, suc, ◌+◌, ◌-◌, ◌≤◌, pos, List, [], ◌∷◌, map, length, IsTrue, refl}
-use Rattle.std.specs.List.{AllByRecursion}
-use Rattle.std.proofs.Common.{ap, sym, ◌∙◌, subst, arith, ⊎_elim}
-use Rattle.std.proofs.lemmas.Bool.{cases_lt}
-use Rattle.ring_laws.specs.Meaning.{Meaning}
-use Rattle.ring_laws.specs.Algebra.{Ops, Algebra, Passing, within, Laws, same_passing}
+use Rattle.std.specs.Prelude.{◌≡◌, pos, List, [], ◌∷◌, map, refl}
+use Rattle.std.proofs.Common.{ap, sym, ◌∙◌, ⊎_elim}
+use Rattle.ring_laws.specs.Algebra.{Ops, Algebra, Passing, within, Laws}
 use Rattle.ring_laws.specs.Division.{DomainLaws}
 use Rattle.poly_laws.proofs.Coefficients.{meanings_same}
-use Rattle.poly_laws.proofs.ListLaws.{product_nought}
 use Rattle.poly_laws.proofs.PolyDomain.{no_divisors_within}
-use Rattle.kernel_laws.specs.Rows.{entry_at}
-use Rattle.kernel_laws.specs.Reduction.{Reduces, bare}
+use Rattle.kernel_laws.specs.Reduction.{bare}
 use Rattle.kernel_laws.proofs.Cancelling.{cancel_factor}
-use Rattle.reducing.specs.TakenOut.{raised_to, times_row, TakenOut, AllTakenOut, none, next}
+use Rattle.reducing.specs.TakenOut.{times_row}
 
 module _ (a : Algebra) (l : Laws a) (d : DomainLaws a) where
   abbrev W : Ops (Passing a)

@@ -1,19 +1,12 @@
 -- The laws of the reduction of whole numbers.
 -- These are lemmas: they stand in specs/, since the laws that `Reducing` names rest on them.
-use Rattle.std.specs.Prelude.{◌≡◌, ℕ, zero, suc, ℤ, pos, ◌*ℤ◌, ◌-ℤ◌, unsigned_abs, List, [], ◌∷◌, map, length, IsTrue, refl}
-use Rattle.std.proofs.Common.{ap, sym, ◌∙◌, subst, arith, ⊎_elim}
-use Rattle.std.proofs.lemmas.Int.{ints}
-use Rattle.std.proofs.lemmas.List.{length-map}
-use Rattle.std.proofs.lemmas.Nat.Gcd.{dvd_antisymm}
+use Rattle.std.specs.Prelude.{◌≡◌, ℤ, pos, ◌*ℤ◌, [], ◌∷◌, IsTrue, refl}
+use Rattle.std.proofs.Common.{ap, sym, ◌∙◌, subst}
 use Rattle.ring_solver.proofs.Read.{ring_z, reading_z}
 use Rattle.ring_laws.specs.Meaning.{Meaning, number}
-use Rattle.ring_laws.specs.Algebra.{Passing}
-use Rattle.ring_laws.specs.Wholes.{whole_algebra, number_of}
-use Rattle.ring_laws.specs.WholeDomain.{whole_domain}
-use Rattle.poly_divide.specs.Content.{IsContent}
-use Rattle.kernel_laws.specs.Rows.{entry_at}
-use Rattle.kernel_laws.specs.Reduction.{Reduces, Splits, ReductionLaws, bare}
-use Rattle.reducing.specs.WholeRows.{WholeReduced, WholeSplit, whole_reduction}
+use Rattle.ring_laws.specs.Wholes.{whole_algebra}
+use Rattle.kernel_laws.specs.Reduction.{Splits, ReductionLaws}
+use Rattle.reducing.specs.WholeRows.{WholeSplit, whole_reduction}
 use Rattle.reducing.specs.Laws.WholeMultiples.{whole_reduces}
 use Rattle.reducing.specs.Laws.OneWholeRow.{one_whole_row}
 
