@@ -69,7 +69,8 @@ pub fn eliminate<R: Reducing>(
 }
 
 /// One vector of the kernel of the rows for each column at which one ends, by rising column: every vector of the kernel has a multiple
-/// that isn't zero times it and is a sum of multiples of these.
+/// that isn't zero times it and is a sum of multiples of these. They are independent, and each is zero at the columns at which the
+/// others end.
 ///
 /// `TooLarge` comes only where a step of the elimination or of the back substitution is out of bounds.
 pub fn kernel_basis<R: Reducing>(

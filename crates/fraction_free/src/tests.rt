@@ -14,7 +14,7 @@ fn numbers(alloc: Global, values: &[i128]) -> Result<Vec<Whole>, RingFault> {
     Ok(list)
 }
 
-// The rows of a table of numbers, each of the width; `TooLarge` for a row of another length.
+// The rows of a table of numbers.
 fn rows_of(alloc: Global, table: &[&[i128]], width: usize) -> Result<Vec<Vec<Whole>>, RingFault> {
     let mut rows = Vec::new(alloc);
     for values in table {
@@ -69,12 +69,57 @@ fn has_vector<R: Reducing>(
     free: u32,
 ) -> Result<bool, RingFault> {
     if !are_of_width(&rows, columns as usize) || columns == 0 || columns > 48 || first >= columns {
-        return Err(RingFault::TooLarge);
+        return Ok(false);
     }
     match eliminate(alloc, rows, columns, first)? {
         Either::Left(kernel) => Ok(kernel.free == free && are_same(&kernel.vector, wanted)),
         Either::Right(_) => Ok(false),
     }
+}
+
+// x_0 = x_1, x_1 = x_2, .., so many rows.
+fn chain<R: Reducing>(alloc: Global, count: usize) -> Result<Vec<Vec<R>>, RingFault> {
+    let mut rows = Vec::new(alloc);
+    for at in 0..count {
+        let mut row = Vec::new(alloc);
+        for column in 0..48 {
+            let entry = if column == at {
+                R::one(alloc)?
+            } else if column > at && column - at == 1 {
+                R::one(alloc)?.neg(alloc)?
+            } else {
+                R::zero(alloc)?
+            };
+            row.push(entry)?;
+        }
+        rows.push(row)?;
+    }
+    Ok(rows)
+}
+
+// Whether the chain through 48 columns has the vector of ones, and with one row more no vector.
+fn goes_through_all<R: Reducing>(alloc: Global) -> Result<bool, RingFault> {
+    let mut ones = Vec::new(alloc);
+    for _column in 0..48 {
+        ones.push(R::one(alloc)?)?;
+    }
+    let rows = chain::<R>(alloc, 48)?;
+    if !are_of_width(&rows, 48) {
+        return Ok(false);
+    }
+    let full = match eliminate(alloc, rows, 48, 0)? {
+        Either::Left(_) => false,
+        Either::Right(pivots) => pivots.rank == 48,
+    };
+    Ok(full && has_vector(alloc, chain::<R>(alloc, 47)?, 48, 0, &ones, 47)?)
+}
+
+#[test]
+fn forty_eight_columns(rt: HostRuntime) -> Result<(), RingFault> {
+    let alloc = rt.alloc();
+    assert!(rt; goes_through_all::<Whole>(alloc)?);
+    assert!(rt; goes_through_all::<Zn>(alloc)?);
+    Ok(())
 }
 
 #[test]
@@ -181,6 +226,19 @@ fn bases_of_whole_numbers(rt: HostRuntime) -> Result<(), RingFault> {
     assert_eq!(rt; basis.len(), 2);
     assert!(rt; are_same(&basis[0], &numbers(alloc, &[1, 1, 0])?));
     assert!(rt; are_same(&basis[1], &numbers(alloc, &[0, 0, 1])?));
+    // x = 2*z and 3*y = 2*w: each vector is primitive, and zero where the other ends
+    let rows = rows_of(alloc, &[&[1, 0, -2, 0], &[0, 3, 0, -2]], 4)?;
+    if !are_of_width(&rows, 4) {
+        return Err(RingFault::Memory);
+    }
+    let basis = kernel_basis(alloc, rows, 4)?;
+    assert_eq!(rt; basis.len(), 2);
+    assert!(rt; are_same(&basis[0], &numbers(alloc, &[2, 0, 1, 0])?));
+    assert!(rt; are_same(&basis[1], &numbers(alloc, &[0, 2, 0, 3])?));
+    let rows = rows_of(alloc, &[&[0, 1 << 100, 1], &[0, (1 << 99) + 1, 1]], 3)?;
+    if are_of_width(&rows, 3) {
+        assert!(rt; matches!(kernel_basis(alloc, rows, 3), Err(RingFault::TooLarge)));
+    }
     let all = kernel_basis::<Whole>(alloc, Vec::new(alloc), 48)?;
     assert_eq!(rt; all.len(), 48);
     let all = kernel_basis::<Zn>(alloc, Vec::new(alloc), 48)?;

@@ -8,7 +8,7 @@ use Rattle.ring_laws.specs.Meaning.{Meaning}
 use Rattle.hypergeometric.specs.Fraction.{Fraction}
 use Rattle.whole_roots.specs.LinearFactors.{Entry, AreLinearFactors, IsLinearFactor}
 use Rattle.reducing.specs.PolynomialRows.{forms}
-use Rattle.reducing.specs.FactorLists.{one_factors}
+use Rattle.reducing.specs.Laws.FactorLists.{one_factors}
 use Rattle.hyper_claims.specs.Pairs.{IsEarlier, Choice, ComesBefore, IsNormalChoice, AreNormalChoices}
 use Rattle.hyper_claims.specs.Roots.{IsLess, IsProfileRoot, AreProfileRoots}
 use Rattle.hyper_claims.proofs.OneList.{one_list}

@@ -10,9 +10,10 @@ use Rattle.whole_roots.specs.Differences.{polynomials}
 use Rattle.whole_roots.specs.LinearFactors.{Entry, IsLinearFactor, IsProfileForm, PowerDivides, HasForm}
 use Rattle.kernel_laws.specs.Rows.{entry_at}
 use Rattle.reducing.specs.TakenOut.{times_row, AllTakenOut, next}
-use Rattle.reducing.specs.TakenOutLaws.{scaled, scaled_is, is_scaled, scaled_twice, Multiple, all_taken_out_multiple}
+use Rattle.reducing.specs.Laws.ScaledRows.{scaled, scaled_is, is_scaled, scaled_twice}
+use Rattle.reducing.specs.Laws.Multiples.{Multiple, all_taken_out_multiple}
 use Rattle.reducing.specs.PolynomialRows.{Row, meant, forms, Reduced, stays, divides, PolynomialsReduced}
-use Rattle.reducing.specs.FactorLists.{laws, domain, P, linear_is_factor, forms_are_factors}
+use Rattle.reducing.specs.Laws.FactorLists.{laws, domain, P, linear_is_factor, forms_are_factors}
 use Rattle.reducing.specs.CommonForms.{HasNoCommonForm, IsSomeNonzero}
 use Rattle.reducing.proofs.WithoutFactor.{entry_of_times}
 

@@ -17,8 +17,9 @@ use Rattle.poly_laws.proofs.PolyLaws.{coefficient-product}
 use Rattle.poly_divide.specs.Content.{sizes_of, row_sizes, DividesAll, IsContent}
 use Rattle.whole_roots.specs.Differences.{polynomials}
 use Rattle.reducing.specs.TakenOut.{times_row}
-use Rattle.reducing.specs.TakenOutLaws.{scaled, scaled_is, Multiple, all_taken_out_multiple}
-use Rattle.reducing.specs.FactorLists.{laws, domain, forms_are_factors}
+use Rattle.reducing.specs.Laws.ScaledRows.{scaled, scaled_is}
+use Rattle.reducing.specs.Laws.Multiples.{Multiple, all_taken_out_multiple}
+use Rattle.reducing.specs.Laws.FactorLists.{laws, domain, forms_are_factors}
 use Rattle.reducing.specs.PolynomialRows.{Row, meant, forms, Reduced, stays, divides, PolynomialsReduced}
 use Rattle.reducing.specs.CommonForms.{IsSomeNonzero}
 use Rattle.reducing.proofs.RowContents.{first_part, last_part}

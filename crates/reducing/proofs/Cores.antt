@@ -8,10 +8,10 @@ use Rattle.ring_laws.specs.declared.faults.RingFault.{RingFault}
 use Rattle.ring_laws.specs.declared.faults.RingFault.TheVariants.{Memory}
 use Rattle.poly_laws.proofs.ListLaws.{nought_product}
 use Rattle.whole_roots.specs.Differences.{polynomials}
-use Rattle.reducing.specs.TakenOutLaws.{Multiple}
+use Rattle.reducing.specs.Laws.Multiples.{Multiple}
 use Rattle.reducing.specs.PolynomialRows.{Row, meant, Reduced, PolynomialsReduced, PolynomialsInBounds, IsCore}
-use Rattle.reducing.specs.FactorLists.{laws, domain, P}
-use Rattle.reducing.specs.PolynomialLaws.{multiple, polynomials_reduce}
+use Rattle.reducing.specs.Laws.FactorLists.{laws, domain, P}
+use Rattle.reducing.specs.Laws.OnePolynomialRow.{multiple, polynomials_reduce}
 use Rattle.reducing.specs.PolynomialAnswers.{HasPositiveLead, GivesCore}
 use Rattle.reducing.proofs.Polynomials.{Zn, sense, sense_passes, senses}
 use Rattle.reducing.proofs.WithoutFactor.{row_is}

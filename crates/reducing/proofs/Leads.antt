@@ -10,7 +10,7 @@ use Rattle.ring_laws.specs.declared.faults.RingFault.{RingFault}
 use Rattle.poly_laws.specs.Lists.{coefficient_at, is_trimmed}
 use Rattle.whole_roots.specs.Differences.{polynomials}
 use Rattle.reducing.specs.PolynomialRows.{lead_number}
-use Rattle.reducing.specs.SplitLaws.{lead_negative}
+use Rattle.reducing.specs.Laws.PolynomialReduction.{lead_negative}
 use Rattle.reducing.specs.PolynomialAnswers.{HasPositiveLead}
 use Rattle.reducing.proofs.Polynomials.{Zn, sense, sense_passes}
 

@@ -21,3 +21,4 @@ pub mod ZeroRows
 pub mod Constants
 pub mod ReducedVectors
 pub mod WholeVectors
+pub mod LeftRows

@@ -7,7 +7,7 @@ use Rattle.ring_laws.specs.Algebra.{Passing, same_passing}
 use Rattle.poly_divide.specs.Content.{row_sizes, IsContent}
 use Rattle.whole_roots.specs.Differences.{polynomials}
 use Rattle.reducing.specs.PolynomialRows.{IsTimesContent}
-use Rattle.reducing.specs.FactorLists.{laws, P}
+use Rattle.reducing.specs.Laws.FactorLists.{laws, P}
 use Rattle.reducing.proofs.Polynomials.{Zn, sense, sense_passes, senses}
 use Rattle.reducing.proofs.ZeroRows.{zero_row}
 

@@ -13,13 +13,13 @@ use Rattle.poly_laws.proofs.Rings.{solvable}
 use Rattle.whole_roots.specs.Differences.{polynomials}
 use Rattle.kernel_laws.specs.Reduction.{IsCoreBy}
 use Rattle.reducing.specs.RowAnswer.{GivesPart}
-use Rattle.reducing.specs.WholeLaws.{one_content}
-use Rattle.reducing.specs.TakenOutLaws.{Multiple, all_taken_out_multiple}
+use Rattle.reducing.specs.Laws.OneContent.{one_content}
+use Rattle.reducing.specs.Laws.Multiples.{Multiple, all_taken_out_multiple}
 use Rattle.reducing.specs.PolynomialRows.{Row, meant, Reduced, stays, divides, WithoutContent, forms, IsCore, PolynomialSplit, DivisionOfPolynomials, IsTimesContent, CoreInBounds, SplittingInBounds, polynomial_reduction}
 use Rattle.reducing.specs.PolynomialAnswers.{GivesCore}
-use Rattle.reducing.specs.FactorLists.{laws, domain, P, forms_are_factors}
-use Rattle.reducing.specs.PolynomialLaws.{multiple, one_quotients}
-use Rattle.reducing.specs.SplitLaws.{lead_of_zero}
+use Rattle.reducing.specs.Laws.FactorLists.{laws, domain, P, forms_are_factors}
+use Rattle.reducing.specs.Laws.OnePolynomialRow.{multiple, one_quotients}
+use Rattle.reducing.specs.Laws.PolynomialReduction.{lead_of_zero}
 use Rattle.reducing.proofs.Polynomials.{Zn, sense, sense_passes}
 
 head : {v w : Passing polynomials} → v ∷ [] ≡ w ∷ [] → v ≡ w

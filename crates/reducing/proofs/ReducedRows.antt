@@ -1,7 +1,7 @@
 -- The row of the code, reduced: its content is taken out, and then the linear factors of the first entry of least degree.
 use Rattle.std.specs.Prelude.{◌≢◌, unsigned_abs}
 use Rattle.std.specs.List.{AllByRecursion}
-use Rattle.std.proofs.Common.{◌≡◌, ℕ, zero, suc, ◌+◌, ◌<◌, ◌≤◌, ℤ, pos, ◌≤ℤ◌, List, [], ◌∷◌, map, length, get_or, refl, ap, ◌∙◌, subst, sym, arith, Result, Ok, Err, Vec, Option, Some}
+use Rattle.std.proofs.Common.{◌≡◌, ℕ, ◌+◌, ◌<◌, ◌≤◌, ℤ, pos, ◌≤ℤ◌, List, [], ◌∷◌, map, length, get_or, ap, ◌∙◌, subst, sym, arith, Result, Ok, Err, Vec, Option, Some}
 use Rattle.std.proofs.lemmas.Int.{ints}
 use Rattle.std.proofs.lemmas.List.{length-map}
 use Rattle.ring_laws.specs.Meaning.{Meaning}
@@ -17,8 +17,8 @@ use Rattle.whole_roots.specs.FactorBounds.{FactorsInBounds}
 use Rattle.kernel_laws.specs.Rows.{entry_at}
 use Rattle.reducing.specs.RowAnswer.{GivesRow}
 use Rattle.reducing.specs.TakenOut.{raised_to, times_row, AllTakenOut, AllTakingOutInBounds}
-use Rattle.reducing.specs.PolynomialRows.{Row, meant, IsLeast, IsLeastOf, WithoutContent, FactorsOfLeast, forms, stays, divides, OfRows, PolynomialsReduced, PolynomialsInBounds, DivisionOfPolynomials}
-use Rattle.reducing.specs.FactorLists.{P, form_power_is}
+use Rattle.reducing.specs.PolynomialRows.{meant, IsLeast, IsLeastOf, WithoutContent, FactorsOfLeast, forms, stays, divides, OfRows, PolynomialsReduced, PolynomialsInBounds, DivisionOfPolynomials}
+use Rattle.reducing.specs.Laws.FactorLists.{P, form_power_is}
 use Rattle.reducing.specs.PolynomialAnswers.{LeastOf, IsMost, FactorsOfRowInBounds}
 use Rattle.reducing.proofs.Polynomials.{Zn, sense, senses, row_of, row_meant}
 use Rattle.reducing.proofs.WithoutFactor.{row_is, products_are, entry_of_times}

@@ -14,7 +14,7 @@ use Rattle.kernel_laws.specs.RowSteps.{HasQuotient}
 use Rattle.kernel_laws.specs.Kernels.{EndsAt}
 use Rattle.kernel_laws.specs.Answers.{VectorOf}
 use Rattle.kernel_laws.specs.BackSubstitution.{zeros, unit_vector, BackRun, begin, step}
-use Rattle.reducing.specs.FactorLists.{laws, linear_is_factor}
+use Rattle.reducing.specs.Laws.FactorLists.{laws, linear_is_factor}
 use Rattle.reducing.specs.TakenOut.{times_row}
 use Rattle.reducing.specs.NothingCommon.{DividesEntries, HasNothingCommon}
 use Rattle.reducing.specs.PolynomialRows.{Row, meant, PolynomialsReduced, polynomial_reduction}

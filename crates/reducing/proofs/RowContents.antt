@@ -14,7 +14,7 @@ use Rattle.poly_laws.proofs.ListLaws.{nought_product}
 use Rattle.poly_divide.specs.Content.{sizes_of, row_sizes, DividesAll, IsContent}
 use Rattle.whole_roots.specs.Differences.{polynomials}
 use Rattle.kernel_laws.specs.Rows.{entry_at}
-use Rattle.reducing.specs.FactorLists.{laws, P}
+use Rattle.reducing.specs.Laws.FactorLists.{laws, P}
 use Rattle.reducing.specs.PolynomialAnswers.{LeastOf}
 use Rattle.reducing.proofs.Polynomials.{Zn, sense, sense_passes, senses}
 

@@ -1,18 +1,9 @@
 -- The quotients of a row of polynomials by one number, entry by entry.
-use Rattle.std.proofs.Common.{◌≡◌, ℕ, zero, suc, ◌+◌, ◌<◌, List, [], ◌∷◌, ◌++◌, map, length, get_or, take, sym, ap, ◌∙◌, subst, arith, Result, Ok, Err, Option, Vec, IsErrAnd}
-use Rattle.std.proofs.lemmas.List.{length-map, map_push, take_more, take_all}
+use Rattle.std.proofs.Common.{◌≡◌, ℕ, ◌+◌, ◌<◌, List, [], ◌∷◌, ◌++◌, map, length, get_or, take, sym, ap, ◌∙◌, subst, arith}
+use Rattle.std.proofs.lemmas.List.{map_push, take_more, take_all}
 use Rattle.ring_laws.specs.Meaning.{Meaning}
-use Rattle.ring_laws.specs.Algebra.{Passing}
-use Rattle.ring_laws.specs.Answer.{OnFault, fault_weaker}
-use Rattle.ring_laws.specs.declared.faults.RingFault.{RingFault}
-use Rattle.poly_generic.proofs.ListLemmas.{at_item}
 use Rattle.whole_roots.specs.Differences.{polynomials}
-use Rattle.kernel_laws.specs.Rows.{entry_at}
-use Rattle.kernel_laws.specs.RowSteps.{HasQuotient, QuotientsInBounds}
-use Rattle.reducing.specs.TakenOut.{times_row}
-use Rattle.reducing.specs.PolynomialRows.{Row, DivisionOfPolynomials}
-use Rattle.reducing.specs.PolynomialAnswers.{DividesEach}
-use Rattle.reducing.proofs.Polynomials.{Zn, sense, sense_passes, senses}
+use Rattle.reducing.proofs.Polynomials.{Zn, sense, senses}
 
 -- the row is the products with t
 abbrev pub AreProducts : List Zn → Meaning → List Zn → Type 0

@@ -11,9 +11,10 @@ use Rattle.kernel_laws.specs.Rows.{entry_at}
 use Rattle.kernel_laws.specs.RowSteps.{Quotients, NoQuotients, QuotientsInBounds}
 use Rattle.reducing.specs.RowAnswer.{GivesRow}
 use Rattle.reducing.specs.TakenOut.{raised_to, times_row, TakenOut}
-use Rattle.reducing.specs.TakenOutLaws.{scaled, scaled_is, PowerOf, power_is, is_power, no_power, power_more}
+use Rattle.reducing.specs.Laws.ScaledRows.{scaled, scaled_is}
+use Rattle.reducing.specs.Laws.RowPowers.{PowerOf, power_is, is_power, no_power, power_more}
 use Rattle.reducing.specs.PolynomialRows.{Row, meant, OfRows, DivisionOfPolynomials}
-use Rattle.reducing.specs.FactorLists.{laws, domain, P}
+use Rattle.reducing.specs.Laws.FactorLists.{laws, domain, P}
 use Rattle.reducing.specs.PolynomialAnswers.{IsMost, FactorInBounds}
 use Rattle.reducing.proofs.Polynomials.{Zn, sense, senses, row_of, row_meant}
 

@@ -10,9 +10,12 @@ use Rattle.poly_divide.specs.Forms.{linear}
 use Rattle.whole_roots.specs.Differences.{polynomials}
 use Rattle.whole_roots.specs.LinearFactors.{Entry}
 use Rattle.reducing.specs.TakenOut.{raised_to, TakenOut, AllTakenOut, none, next, TakingOutInBounds, AllTakingOutInBounds}
-use Rattle.reducing.specs.TakenOutLaws.{scaled, scaled_twice, power_is, is_power, IsFactor, Multiple, all_taken_out_multiple}
+use Rattle.reducing.specs.Laws.ScaledRows.{scaled, scaled_twice}
+use Rattle.reducing.specs.Laws.RowPowers.{power_is, is_power}
+use Rattle.reducing.specs.Laws.OneTakenOut.{IsFactor}
+use Rattle.reducing.specs.Laws.Multiples.{Multiple, all_taken_out_multiple}
 use Rattle.reducing.specs.PolynomialRows.{Row, OfRows, forms, DivisionOfPolynomials}
-use Rattle.reducing.specs.FactorLists.{laws, domain, P, linear_is_factor}
+use Rattle.reducing.specs.Laws.FactorLists.{laws, domain, P, linear_is_factor}
 use Rattle.reducing.specs.PolynomialAnswers.{IsMost, FactorInBounds, FactorsOfRowInBounds}
 use Rattle.reducing.proofs.Polynomials.{Zn, senses, row_of, row_meant}
 use Rattle.reducing.proofs.WithoutFactor.{row_is, same_some}

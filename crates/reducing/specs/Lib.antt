@@ -1,12 +1,9 @@
 pub mod RowAnswer
 pub mod WholeRows
-pub mod WholeLaws
 pub mod TakenOut
-pub mod TakenOutLaws
 pub mod PolynomialRows
-pub mod FactorLists
-pub mod PolynomialLaws
-pub mod SplitLaws
 pub mod PolynomialAnswers
 pub mod CommonForms
 pub mod NothingCommon
+pub mod WhatIsLeft
+pub mod Laws

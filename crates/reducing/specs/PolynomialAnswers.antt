@@ -1,5 +1,5 @@
 -- What the calls on rows of polynomials answer.
-use Rattle.std.specs.Prelude.{◌⊎◌, pos, ◌<ℤ◌, [], ◌∷◌, ◌≡◌, ℕ, ◌+◌, ◌<◌, List, map, Result, Ok, Err, Option, Some, None, IsTrue}
+use Rattle.std.specs.Prelude.{◌⊎◌, pos, ◌<ℤ◌, [], ◌∷◌, ◌≡◌, ℕ, ◌+◌, ◌<◌, List, Result, Ok, Err, Option, Some, None, IsTrue}
 use Rattle.ring_laws.specs.Meaning.{Meaning}
 use Rattle.ring_laws.specs.Answer.{OnFault}
 use Rattle.ring_laws.specs.declared.faults.RingFault.{RingFault}

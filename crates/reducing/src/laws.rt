@@ -12,6 +12,7 @@ ghost use Rattle.reducing.specs.WholeRows.{ArePrimitive, whole_reduction};
 ghost use Rattle.reducing.specs.PolynomialRows.{PolynomialsReduced, polynomial_reduction};
 ghost use Rattle.reducing.specs.NothingCommon.{HasNothingCommon};
 ghost use Rattle.reducing.specs.CommonForms.{HasNoCommonForm, IsSomeNonzero};
+ghost use Rattle.reducing.specs.WhatIsLeft.{IsWhatIsLeft};
 
 /// Of a reduced row of polynomials in which some coefficient isn't zero, no form `u*n + v` with u from 1 to 4 and no common divisor of u and
 /// v above 1 divides every entry.
@@ -22,6 +23,12 @@ pub fn no_form_is_left()
 /// Of a reduced row of polynomials in which some coefficient isn't zero, no whole number above 1 divides every coefficient.
 pub fn no_content_is_left()
     ensures law { (old new : List Meaning) → PolynomialsReduced old new → IsSomeNonzero new → IsContent (row_sizes new) 1 }
+{}
+
+/// A reduced row of polynomials in which some coefficient isn't zero is what is left of the row: times a whole number and forms `u*n + v`, u from 1
+/// to 4 and prime to v, it is the row, its coefficients have no common divisor above 1, and no such form divides every entry of it.
+pub fn reduced_rows_are_what_is_left()
+    ensures law { (old new : List Meaning) → PolynomialsReduced old new → IsSomeNonzero new → IsWhatIsLeft old new }
 {}
 
 /// Of a vector of polynomials that the steps of elimination and back substitution give, neither a whole number above 1 nor a form `u*n + v` with u

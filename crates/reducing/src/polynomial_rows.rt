@@ -7,7 +7,7 @@ ghost use Rattle.kernel_laws.specs.Reduction.{IsCoreBy};
 ghost use Rattle.reducing.specs.RowAnswer.{GivesRow, GivesPart, GivesParts};
 ghost use Rattle.reducing.specs.PolynomialRows.{lead_number, PolynomialsReduced, PolynomialsInBounds, PolynomialSplit, IsCore, IsTimesContent, CoreInBounds, SplittingInBounds, polynomial_reduction};
 ghost use Rattle.reducing.specs.PolynomialAnswers.{HasPositiveLead, GivesCore};
-ghost use Rattle.reducing.specs.SplitLaws.{polynomial_reduction_laws};
+ghost use Rattle.reducing.specs.Laws.PolynomialReduction.{polynomial_reduction_laws};
 
 use crate::domains::Reducing;
 use crate::factors_out::without_factors;

@@ -50,7 +50,9 @@ fn has_parts<R: Reducing>(
     }
     let parts = value.split(alloc)?;
     let product = parts.0.mul(alloc, &parts.1)?;
-    Ok(parts.0.same(plain) && parts.1.same(core) && product.same(value))
+    let alone = value.core(alloc)?;
+    let beside = value.plain_part(alloc, &alone)?;
+    Ok(parts.0.same(plain) && parts.1.same(core) && product.same(value) && beside.same(plain))
 }
 
 // Whether this is the core of the value.
@@ -95,6 +97,18 @@ fn rows_of_polynomials(rt: HostRuntime) -> Result<(), RingFault> {
         let wanted = polynomials(alloc, wanted)?;
         assert!(rt; reduces_to(alloc, polynomials(alloc, row)?, &wanted)?);
     }
+    // 4*n^2 + 2^126 + 1, whose factors of slope 2 are looked for among numbers up to 4*(2^126 + 1)
+    let large = polynomials(alloc, &[&[(1 << 126) + 1, 0, 4]])?;
+    assert!(rt; matches!(reduces_to(alloc, large, &[]), Err(RingFault::TooLarge)));
+    Ok(())
+}
+
+#[test]
+fn the_one_of_a_ring(rt: HostRuntime) -> Result<(), RingFault> {
+    let alloc = rt.alloc();
+    assert!(rt; Whole::one(alloc)?.is_one() && !Whole::zero(alloc)?.is_one());
+    assert!(rt; Zn::one(alloc)?.is_one() && !Zn::zero(alloc)?.is_one());
+    assert!(rt; !polynomial(alloc, &[1, 1])?.is_one() && !polynomial(alloc, &[-1])?.is_one());
     Ok(())
 }
 

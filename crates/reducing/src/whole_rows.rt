@@ -9,7 +9,7 @@ ghost use Rattle.poly_divide.specs.Content.{DividesAll, IsContent};
 ghost use Rattle.kernel_laws.specs.Reduction.{IsCoreBy};
 ghost use Rattle.reducing.specs.RowAnswer.{GivesRow, GivesPart, GivesParts};
 ghost use Rattle.reducing.specs.WholeRows.{WholeReduced, WholeSplit, whole_reduction};
-ghost use Rattle.reducing.specs.WholeLaws.{whole_reduction_laws};
+ghost use Rattle.reducing.specs.Laws.WholeReduction.{whole_reduction_laws};
 
 use crate::domains::Reducing;
 use ring_laws::{Domain, Ring, RingFault, Whole, gcd_whole};

@@ -14,7 +14,7 @@ use Rattle.key_laws.specs.DegreeBounds.{coefficient_count}
 use Rattle.key_laws.specs.Solutions.{IsLeastSolution}
 use Rattle.key_laws.proofs.CommonDivisors.{divisor_stays}
 use Rattle.poly_divide.specs.Forms.{linear}
-use Rattle.reducing.specs.FactorLists.{laws, linear_is_factor}
+use Rattle.reducing.specs.Laws.FactorLists.{laws, linear_is_factor}
 use Rattle.reducing.specs.PolynomialRows.{lead_number}
 use Rattle.hypergeometric.specs.LinearForm.{LinearForm}
 use Rattle.hypergeometric.specs.FormOrder.{IsSorted}

@@ -21,7 +21,7 @@ use Rattle.key_laws.specs.DegreeBounds.{coefficient_count}
 use Rattle.key_laws.specs.KeyRows.{listing}
 use Rattle.key_laws.proofs.Columns.{listing_meant}
 use Rattle.poly_divide.specs.Forms.{linear}
-use Rattle.reducing.specs.FactorLists.{laws, linear_is_factor}
+use Rattle.reducing.specs.Laws.FactorLists.{laws, linear_is_factor}
 use Rattle.reducing.specs.NothingCommon.{DividesEntries, HasNothingCommon}
 use Rattle.reducing.proofs.ReducedVectors.{nothing_common}
 use Rattle.term_pieces.specs.NormalForm.{Normal}

@@ -15,9 +15,9 @@ use Rattle.kernel_laws.proofs.ClearedRows.{domain as row_domain}
 use Rattle.kernel_laws.proofs.Echelon.{ends_at_free}
 use Rattle.kernel_laws.proofs.PartRuns.{pivot_rows_stand, pivots_back, isnt_pivot}
 use Rattle.key_laws.specs.DegreeBounds.{coefficient_count}
-use Rattle.reducing.specs.FactorLists.{laws, domain}
+use Rattle.reducing.specs.Laws.FactorLists.{laws, domain}
 use Rattle.reducing.specs.PolynomialRows.{polynomial_reduction}
-use Rattle.reducing.specs.SplitLaws.{polynomial_reduction_laws}
+use Rattle.reducing.specs.Laws.PolynomialReduction.{polynomial_reduction_laws}
 use Rattle.term_pieces.specs.NormalForm.{Normal}
 use Rattle.right_claims.specs.KeySolutions.{rows_of_key}
 use Rattle.right_claims.proofs.FreeVectors.{rows_in, rows_are, rows_long, unit_some}

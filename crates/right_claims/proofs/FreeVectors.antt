@@ -14,9 +14,9 @@ use Rattle.key_laws.specs.DegreeBounds.{coefficient_count}
 use Rattle.key_laws.specs.KeyRows.{key_rows, row_at, rows_below, longest}
 use Rattle.key_laws.proofs.Columns.{columns, key_rows_meant, row_length}
 use Rattle.key_laws.proofs.NegatedVectors.{negated_vector}
-use Rattle.reducing.specs.FactorLists.{laws, domain}
+use Rattle.reducing.specs.Laws.FactorLists.{laws, domain}
 use Rattle.reducing.specs.PolynomialRows.{polynomial_reduction}
-use Rattle.reducing.specs.SplitLaws.{polynomial_reduction_laws}
+use Rattle.reducing.specs.Laws.PolynomialReduction.{polynomial_reduction_laws}
 use Rattle.term_pieces.specs.NormalForm.{Normal}
 use Rattle.right_claims.specs.KeySolutions.{q_of, b_of, rows_of_key, IsVectorByTheSteps, IsChosenVector}
 use Rattle.right_claims.proofs.Sides.{q_in, b_in, sides_in, sides_are, sides_length}

@@ -11,7 +11,7 @@ use Rattle.ring_solver.proofs.Read.{ring_z, reading_z}
 use Rattle.ring_laws.specs.Algebra.{Ops, Passing, within, same_passing}
 use Rattle.poly_laws.proofs.PolyDomain.{no_divisors_within}
 use Rattle.poly_laws.proofs.OneQuotient.{cancelled}
-use Rattle.reducing.specs.FactorLists.{laws, domain}
+use Rattle.reducing.specs.Laws.FactorLists.{laws, domain}
 use Rattle.poly_divide.specs.Content.{row_sizes, IsContent}
 use Rattle.poly_divide.specs.Forms.{linear}
 use Rattle.whole_roots.specs.Differences.{polynomials}

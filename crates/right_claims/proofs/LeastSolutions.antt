@@ -15,7 +15,7 @@ use Rattle.key_laws.specs.Solutions.{IsLeastSolution}
 use Rattle.key_laws.proofs.Columns.{key_rows_meant}
 use Rattle.key_laws.proofs.Answers.{free_solution}
 use Rattle.key_laws.proofs.Kernels.{y_in}
-use Rattle.reducing.specs.FactorLists.{laws, domain}
+use Rattle.reducing.specs.Laws.FactorLists.{laws, domain}
 use Rattle.term_pieces.specs.NormalForm.{Normal}
 use Rattle.pole_laws.specs.Orders.{sides_of}
 use Rattle.right_claims.specs.KeySolutions.{q_of, b_of, IsChosenVector, y_of, multiplier_of}

@@ -13,9 +13,9 @@ use Rattle.kernel_laws.proofs.FrontRuns.{one_first_free}
 use Rattle.kernel_laws.proofs.OneVector.{one_vector}
 use Rattle.key_laws.specs.DegreeBounds.{coefficient_count}
 use Rattle.key_laws.proofs.OneBound.{one_bound}
-use Rattle.reducing.specs.FactorLists.{laws, domain}
+use Rattle.reducing.specs.Laws.FactorLists.{laws, domain}
 use Rattle.reducing.specs.PolynomialRows.{lead_number, polynomial_reduction}
-use Rattle.reducing.specs.SplitLaws.{lead_negative, polynomial_reduction_laws}
+use Rattle.reducing.specs.Laws.PolynomialReduction.{lead_negative, polynomial_reduction_laws}
 use Rattle.term_pieces.specs.NormalForm.{Normal}
 use Rattle.pole_laws.specs.Orders.{sides_of}
 use Rattle.right_claims.specs.KeySolutions.{q_of, b_of, rows_of_key, IsVectorByTheSteps, IsSigned, IsChosenVector}

@@ -1,5 +1,5 @@
 -- The parts of a polynomial are one plain part and one core, whose product it is.
--- These are lemmas: they stand here, and not in proofs/, since the ring of polynomials as `Reducing` names the last of them.
+-- These are lemmas: they stand in specs/, since the laws that `Reducing` names rest on them.
 use Rattle.std.specs.Prelude.{◌≡◌, ℕ, zero, suc, ◌-◌, ℤ, pos, negsuc, neg_ℤ, ◌<ℤ◌, not, List, [], ◌∷◌, map, length, IsTrue, refl}
 use Rattle.std.proofs.Common.{ap, sym, ◌∙◌, subst, arith, ⊎_elim}
 use Rattle.std.proofs.lemmas.Int.{ints}
@@ -15,8 +15,8 @@ use Rattle.whole_roots.specs.Differences.{polynomials}
 use Rattle.kernel_laws.specs.Reduction.{Splits, ReductionLaws}
 use Rattle.kernel_laws.proofs.Cancelling.{cancel_factor}
 use Rattle.reducing.specs.PolynomialRows.{Reduced, degree, lead_number, IsCore, PolynomialSplit, polynomial_reduction}
-use Rattle.reducing.specs.FactorLists.{laws, domain, P}
-use Rattle.reducing.specs.PolynomialLaws.{one_reduced, polynomials_reduce, one_row}
+use Rattle.reducing.specs.Laws.FactorLists.{laws, domain, P}
+use Rattle.reducing.specs.Laws.OnePolynomialRow.{one_reduced, polynomials_reduce, one_row}
 
 -- ---- the coefficients of the negative
 zero_negative : (z : ℤ) → is_zero (neg_ℤ z) ≡ is_zero z

@@ -1,5 +1,5 @@
 -- Reducing rows of polynomials keeps what a reduction has to give, and gives one row.
--- These are lemmas: they stand here, and not in proofs/, since the ring of polynomials as `Reducing` names what rests on them.
+-- These are lemmas: they stand in specs/, since the laws that `Reducing` names rest on them.
 use Rattle.std.specs.Prelude.{◌≡◌, ℕ, pos, List, refl}
 use Rattle.std.proofs.Common.{ap, sym, ◌∙◌, subst, arith, ⊎_elim}
 use Rattle.std.proofs.lemmas.Bool.{cases_lt}
@@ -12,11 +12,13 @@ use Rattle.whole_roots.specs.Differences.{polynomials}
 use Rattle.whole_roots.specs.LinearFactors.{Entry, AreLinearFactors}
 use Rattle.kernel_laws.specs.Rows.{entry_at}
 use Rattle.kernel_laws.specs.Reduction.{Reduces}
-use Rattle.reducing.specs.WholeLaws.{one_content}
+use Rattle.reducing.specs.Laws.OneContent.{one_content}
 use Rattle.reducing.specs.TakenOut.{AllTakenOut}
-use Rattle.reducing.specs.TakenOutLaws.{scaled, scaled_is, cancel_row, Multiple, multiple_twice, same_multiple, multiple_reduces, one_all_taken_out, all_taken_out_multiple}
+use Rattle.reducing.specs.Laws.ScaledRows.{scaled, scaled_is, cancel_row}
+use Rattle.reducing.specs.Laws.Multiples.{Multiple, multiple_twice, same_multiple, multiple_reduces, all_taken_out_multiple}
+use Rattle.reducing.specs.Laws.OneTakenOut.{one_all_taken_out}
 use Rattle.reducing.specs.PolynomialRows.{Row, meant, IsLeast, WithoutContent, FactorsOfLeast, forms, Reduced, stays, divides, PolynomialsReduced}
-use Rattle.reducing.specs.FactorLists.{laws, domain, P, forms_are_factors, one_factors}
+use Rattle.reducing.specs.Laws.FactorLists.{laws, domain, P, forms_are_factors, one_factors}
 
 abbrev IsMultiple : Row → Row → Type 0
 IsMultiple old new = Multiple polynomials laws domain old new

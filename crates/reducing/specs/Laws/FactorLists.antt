@@ -1,5 +1,5 @@
 -- The linear factors of a polynomial, in their order, are one list of forms.
--- These are lemmas: they stand here, and not in proofs/, since the ring of polynomials as `Reducing` names what rests on them.
+-- These are lemmas: they stand in specs/, since the laws that `Reducing` names rest on them.
 use Rattle.std.specs.Prelude.{◌≡◌, ℕ, zero, suc, ◌≤◌, ℤ, pos, List, [], ◌∷◌, refl}
 use Rattle.std.specs.List.{AllByRecursion}
 use Rattle.std.proofs.Common.{ap, sym, ◌∙◌, subst, arith, ⊎_elim, inl, inr}
@@ -16,7 +16,8 @@ use Rattle.poly_divide.specs.Forms.{linear}
 use Rattle.whole_roots.specs.Differences.{polynomials}
 use Rattle.whole_roots.specs.LinearFactors.{Entry, AreLinearFactors, IsLinearFactor, IsProfileForm, PowerDivides, IsBefore, IsRisingByForm, HasForm, form_power}
 use Rattle.reducing.specs.TakenOut.{raised_to}
-use Rattle.reducing.specs.TakenOutLaws.{raised_meant, IsFactor}
+use Rattle.reducing.specs.Laws.RowPowers.{raised_meant}
+use Rattle.reducing.specs.Laws.OneTakenOut.{IsFactor}
 use Rattle.reducing.specs.PolynomialRows.{forms}
 
 abbrev pub laws : Laws polynomials
