@@ -1,0 +1,20 @@
+pub mod Pushes
+pub mod CountedShifts
+pub mod ShareTotals
+pub mod NumberPowers
+pub mod PowerSums
+pub mod ProductSteps
+pub mod DegreeSteps
+pub mod PieceOperations
+pub mod TopLists
+pub mod LaterSizes
+pub mod GatheredForms
+pub mod CarrierForms
+pub mod AbsentForms
+pub mod ShareLists
+pub mod WholeNumbers
+pub mod TopFaults
+pub mod KeptForms
+pub mod CarrierFacts
+pub mod PlainTests
+mod KnownPieceSteps
