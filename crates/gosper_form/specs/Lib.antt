@@ -1,0 +1,4 @@
+pub mod NormalView
+pub mod NormalCandidates
+pub mod NormalShifts
+pub mod NormalLists
