@@ -7,11 +7,11 @@ use Rattle.ring_laws.specs.declared.faults.RingFault.{RingFault}
 use Rattle.ring_laws.specs.Wholes.{is_zero, number_of, whole_algebra}
 use Rattle.ring_solver.proofs.Read.{ring_z, reading_z}
 use Rattle.poly_fraction.specs.Fractions.{RingFraction, AreSame}
-use Rattle.poly_fraction.specs.LowestTerms.{IsLowest}
+use Rattle.poly_fraction.specs.LowestTerms.{IsInLowestTerms}
 use Rattle.hypergeometric.specs.Divisors.{lowest_terms}
 use Rattle.hypergeometric.proofs.FractionLaws.{pow_not_zero}
 use Rattle.hypergeometric.proofs.OnlyLowest.{only_lowest}
-use Rattle.proper_term.specs.Fields.{whole_fraction}
+use Rattle.proper_term.specs.Fields.{number_fraction_of}
 use Rattle.gosper_form.proofs.NumberPowers.{out_of_bounds}
 
 pub tested_nonzero : (z : ℤ) → is_zero z ≡ false → z ≢ pos 0
@@ -30,10 +30,10 @@ unfolding pow lib.IntN.one
 power_one z = one_times z
 
 -- the lowest terms of a quotient
-pub lowest_found : (t b : ℤ) (f g : RingFraction) → b ≢ pos 0 → IsLowest g → AreSame whole_algebra.ops g f → number_of f.top ≡ t → number_of f.bottom ≡ b
-    → whole_fraction g ≡ lowest_terms (record { top = t; bottom = b })
+pub lowest_found : (t b : ℤ) (f g : RingFraction) → b ≢ pos 0 → IsInLowestTerms g → AreSame whole_algebra.ops g f → number_of f.top ≡ t → number_of f.bottom ≡ b
+    → number_fraction_of g ≡ lowest_terms (record { top = t; bottom = b })
 lowest_found t b f g some low same top bottom =
-    only_lowest (record { top = t; bottom = b }) (whole_fraction g) some (record { positive = low.positive; coprime = low.coprime })
+    only_lowest (record { top = t; bottom = b }) (number_fraction_of g) some (record { positive = low.positive; coprime = low.coprime })
     (ap (λ z. number_of g.top *ℤ z) (sym bottom) ∙ ap number_of same ∙ ap (λ z. z *ℤ number_of g.bottom) top)
 
 -- a product with a power, by what its parts are

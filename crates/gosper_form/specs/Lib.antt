@@ -5,3 +5,7 @@ pub mod PieceSteps
 pub mod TopsOf
 pub mod PiecesOf
 pub mod PlainLists
+pub mod NormalView
+pub mod NormalCandidates
+pub mod NormalShifts
+pub mod NormalLists

@@ -7,7 +7,7 @@ ghost use Rattle.hypergeometric.specs.TermFacts.{IsWithinLimits, AllWithinLimits
 ghost use Rattle.lin_form.specs.Forms.{form_of};
 ghost use Rattle.lin_form.specs.ListOf.{list_of};
 ghost use Rattle.poly_fraction.specs.FractionOf.{fraction_of};
-ghost use Rattle.proper_term.specs.Fields.{whole_fraction};
+ghost use Rattle.proper_term.specs.Fields.{number_fraction_of};
 ghost use Rattle.proper_term.specs.TermOf.{term_of};
 ghost use Rattle.steps.specs.Operations.{IsInBounds};
 ghost use Rattle.term_pieces.specs.Products.{form_plus};
@@ -83,7 +83,7 @@ fn factorials_below(alloc: Global, list: &FactorList, order: u32) -> Result<Fact
 // The quotient of two numbers in lowest terms.
 fn lowest_quotient(top: Whole, bottom: Whole) -> Frac<Whole>
     requires not_zero { bottom.value ≢ pos 0 }
-    ensures quotient { whole_fraction (fraction_of result) ≡ lowest_terms (record { top = top.value; bottom = bottom.value }) }
+    ensures quotient { number_fraction_of (fraction_of result) ≡ lowest_terms (record { top = top.value; bottom = bottom.value }) }
 {
     match Frac::new(top, bottom) {
         Some(fraction) => lowest(&fraction),
@@ -93,7 +93,7 @@ fn lowest_quotient(top: Whole, bottom: Whole) -> Frac<Whole>
 
 // The scale of the carrier: that of the term, times the denominator of the base of k, over that of the base of n to the power of the order.
 fn carrier_scale(alloc: Global, term: &Proper, order: u32) -> Result<Frac<Whole>, RingFault>
-    ensures scale { IfOk result (λ scale. whole_fraction (fraction_of scale) ≡ (carrier_of (term_of term.now) order).scale) }
+    ensures scale { IfOk result (λ scale. number_fraction_of (fraction_of scale) ≡ (carrier_of (term_of term.now) order).scale) }
     ensures in_bounds { IfOk result (λ scale. IsInBounds (carrier_size (term_of term.now) order)) }
     ensures too_large { IfErr result (OnFault (¬ IsInBounds (carrier_size (term_of term.now) order))) }
 {

@@ -3,7 +3,7 @@
 ghost use Rattle.std.specs.Prelude.{◌≡◌, ◌≢◌, ◌≤◌, ◌-◌, ◌*ℤ◌, pos};
 ghost use lib.IntN.{pow};
 ghost use Rattle.poly_fraction.specs.FractionOf.{fraction_of};
-ghost use Rattle.proper_term.specs.Fields.{whole_fraction};
+ghost use Rattle.proper_term.specs.Fields.{number_fraction_of};
 ghost use Rattle.gosper_form.specs.NumberAnswer.{GivesNumber};
 
 use poly_fraction::Frac;
@@ -36,9 +36,9 @@ pub(crate) fn base_number(
     j: u32,
 ) -> Result<Whole, RingFault>
     requires near { j ≤ order }
-    requires not_zero { (whole_fraction (fraction_of base.now)).top ≢ pos 0 }
-    ensures gives { GivesNumber (λ number. number.value) (pow (whole_fraction (fraction_of base.now)).top j
-        *ℤ pow (whole_fraction (fraction_of base.now)).bottom (order - j)) result }
+    requires not_zero { (number_fraction_of (fraction_of base.now)).top ≢ pos 0 }
+    ensures gives { GivesNumber (λ number. number.value) (pow (number_fraction_of (fraction_of base.now)).top j
+        *ℤ pow (number_fraction_of (fraction_of base.now)).bottom (order - j)) result }
 {
     let one = Whole::from(1);
     let number = times_number_power(alloc, one, *base.top(), j)?;

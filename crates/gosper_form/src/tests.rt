@@ -1,6 +1,6 @@
 //! Pieces of worked terms, with values worked out by hand. What no clause says is that memory suffices.
 
-use crate::{Pieces, is_plain, pieces_of};
+use crate::{Normal, Pieces, is_plain, normal_form, pieces_of};
 use lin_form::{FactorList, LinForm};
 use poly_fraction::Frac;
 use poly_generic::{Zn, Znk};
@@ -217,4 +217,106 @@ fn refusals(rt: HostRuntime) {
     };
     assert!(rt; pieces(alloc, &thirds, 0).is_some());
     assert_eq!(rt; fault(alloc, &thirds, 6), Some(StepFault::TooLarge));
+}
+
+// The normal form of a term's quotient at order 0.
+fn normal_of(alloc: Global, fields: &Fields) -> Option<Result<Normal, StepFault>> {
+    let term = term_of(alloc, fields).ok()?;
+    if !is_plain(&term) {
+        return None;
+    }
+    match pieces_of(alloc, &term, 0) {
+        Ok(found) => Some(normal_form(alloc, &found)),
+        Err(_) => None,
+    }
+}
+
+// Whether the matches are k + c by a shift, each once, in this order.
+fn has_matches(normal: &Normal, matches: &[(i64, u64)]) -> bool {
+    normal.matches().len() == matches.len()
+        && normal.matches().iter().zip(matches).all(|(found, wanted)| found.form.offset()
+            == wanted.0
+            && found.shift == wanted.1
+            && found.power == 1)
+}
+
+const RISING: Fields = Fields {
+    up: &[(0, 1, 3, 1)],
+    down: &[(0, 1, 0, 1)],
+    ..ONE
+};
+
+// (k+3)!/k!
+#[test]
+fn a_quotient_of_factorials(rt: HostRuntime) {
+    let Some(Ok(normal)) = normal_of(rt.alloc(), &RISING) else {
+        panic!(rt; "no normal form");
+    };
+    assert!(rt; has_matches(&normal, &[(4, 3)]));
+    assert!(rt; is(normal.q(), 1, &[]) && is(normal.r(), 1, &[]));
+    assert!(rt; is(normal.g(), 1, &[(0, 1, 1, 1), (0, 1, 2, 1), (0, 1, 3, 1)]));
+    let poles = [(0, 1, 0, 1), (0, 1, 1, 1), (0, 1, 2, 1), (0, 1, 3, 1)];
+    assert!(rt; is(normal.poles(), 1, &poles));
+}
+
+// 1/(k(k+1)), and 1/(k(k+2)(k+3)), where k+3 matches k+3 first
+#[test]
+fn denominators_match_from_the_shift_0(rt: HostRuntime) {
+    let two = Fields {
+        over: &[(0, 1, 0, 1), (0, 1, 1, 1)],
+        ..ONE
+    };
+    let three = Fields {
+        over: &[(0, 1, 0, 1), (0, 1, 2, 1), (0, 1, 3, 1)],
+        ..ONE
+    };
+    let (Some(Ok(first)), Some(Ok(second))) = (
+        normal_of(rt.alloc(), &two),
+        normal_of(rt.alloc(), &three),
+    ) else {
+        panic!(rt; "no normal form");
+    };
+    assert!(rt; has_matches(&first, &[(1, 0)]));
+    assert!(rt; is(first.g(), 1, &[]) && is(first.poles(), 1, &[(0, 1, 0, 1)]));
+    assert!(rt; has_matches(&second, &[(3, 0), (2, 1)]));
+    assert!(rt; is(second.q(), 1, &[(0, 1, 0, 1)]) && is(second.r(), 1, &[(0, 1, 4, 1)]));
+}
+
+// (k+c)!/k! has the one match k+c+1 by c
+#[test]
+fn shifts_are_counted_up_to_the_limit(rt: HostRuntime) {
+    let name = LimitName::MatchShifts;
+    let rows = [
+        (
+            Fields {
+                up: &[(0, 1, 300, 1)],
+                ..RISING
+            },
+            Some(StepFault::Limit { name, counted: 301 }),
+        ),
+        (
+            Fields {
+                up: &[(0, 1, 256, 1)],
+                ..RISING
+            },
+            Some(StepFault::Limit { name, counted: 257 }),
+        ),
+        (
+            Fields {
+                up: &[(0, 1, 255, 1)],
+                ..RISING
+            },
+            None,
+        ),
+    ];
+    for (fields, wanted) in rows {
+        match normal_of(rt.alloc(), &fields) {
+            Some(found) => {
+                assert_eq!(rt; found.err(), wanted);
+            }
+            None => {
+                panic!(rt; "no pieces");
+            }
+        }
+    }
 }

@@ -4,7 +4,7 @@ use Rattle.hypergeometric.specs.FormOrder.{IsPrimitive}
 use Rattle.hypergeometric.specs.TermFacts.{IsLowest, IsNotConstant}
 use Rattle.hypergeometric.proofs.FormPolynomials.{more_than_one}
 use Rattle.poly_fraction.specs.FractionOf.{fraction_of}
-use Rattle.proper_term.specs.Fields.{whole_fraction}
+use Rattle.proper_term.specs.Fields.{number_fraction_of}
 use Rattle.proper_term.specs.TermOf.{term_of}
 use Rattle.proper_term.proofs.FieldPolynomials.{polynomial_kept}
 use Rattle.term_pieces.specs.Pieces.{gathered_forms}
@@ -19,10 +19,10 @@ unreachable-requires c = c.in-None.ensures.given (
   record {
     poly = polynomial_kept c.in_ok-poly.poly.list.items c.in_ok-poly.poly.ended c.in_ok-poly.poly.short;
     poly_not_zero = λ e. more_than_one (sym c.in_ok-poly.ensures.gives ∙ e);
-    scale = carrier_scale_lowest (term_of c.args.term.now) c.args.order (whole_fraction (fraction_of c.in_ok-scale.scale)) c.requires.plain.proper
+    scale = carrier_scale_lowest (term_of c.args.term.now) c.args.order (number_fraction_of (fraction_of c.in_ok-scale.scale)) c.requires.plain.proper
         c.in_ok-scale.ensures.scale c.in_ok-scale.scale.top.small c.in_ok-scale.scale.bottom.small;
-    n_base = subst IsLowest (sym (ap whole_fraction c.in_ok-n_base.ensures.makes ∙ c.n_base.ensures.n_base)) c.requires.plain.proper.n_base;
-    k_base = subst IsLowest (sym (ap whole_fraction c.in_ok-k_base.ensures.makes ∙ c.k_base.ensures.k_base)) c.requires.plain.proper.k_base;
+    n_base = subst IsLowest (sym (ap number_fraction_of c.in_ok-n_base.ensures.makes ∙ c.n_base.ensures.n_base)) c.requires.plain.proper.n_base;
+    k_base = subst IsLowest (sym (ap number_fraction_of c.in_ok-k_base.ensures.makes ∙ c.k_base.ensures.k_base)) c.requires.plain.proper.k_base;
     up = c.in_ok-up.up.factors;
     down = c.in_ok-down.down.factors;
     over = c.in_ok-over.over.factors;

@@ -2,7 +2,7 @@ use Rattle.std.proofs.Common.{ap, ◌∙◌, arith, w64, to_z, of_z}
 use Rattle.std.proofs.lemmas.Int.{ints}
 use Rattle.lin_form.proofs.ListProducts.{fault_list}
 use Rattle.poly_fraction.specs.FractionOf.{fraction_of}
-use Rattle.proper_term.specs.Fields.{whole_fraction}
+use Rattle.proper_term.specs.Fields.{number_fraction_of}
 use Rattle.proper_term.specs.TermOf.{term_of}
 use Rattle.gosper_form.specs.RaisedForms.{factors_of}
 use Rattle.gosper_form.proofs.TopFaults.{shift_too_large, number_is, number_some, number_too_large, top_made}
@@ -20,14 +20,14 @@ pub returns-in_err-number-clause-too_large : goal.returns-in_err-number-clause-t
 returns-in_err-number-clause-too_large c =
     fault_list _ c.from_residual-in_err-number.result c.in_err-number.field-0.0 c.from_residual-in_err-number.ensures.1
     (number_too_large (term_of c.args.term.now) c.args.order c.args.j c.in_ok-forms.forms.items _ c.in_err-number.field-0.0 c.in_err-number.ensures.gives
-    (number_is (term_of c.args.term.now) c.args.order c.args.j (whole_fraction (fraction_of c.n_base.result.now)) c.n_base.ensures.n_base)
+    (number_is (term_of c.args.term.now) c.args.order c.args.j (number_fraction_of (fraction_of c.n_base.result.now)) c.n_base.ensures.n_base)
     c.in_ok-forms.ensures.makes)
 
 pub product_of-requires-clause-not_zero : goal.product_of-requires-clause-not_zero
 product_of-requires-clause-not_zero c =
     number_some (term_of c.args.term.now) c.args.order c.args.j c.in_ok-number.number.value
     (c.in_ok-number.ensures.gives
-    ∙ number_is (term_of c.args.term.now) c.args.order c.args.j (whole_fraction (fraction_of c.n_base.result.now)) c.n_base.ensures.n_base)
+    ∙ number_is (term_of c.args.term.now) c.args.order c.args.j (number_fraction_of (fraction_of c.n_base.result.now)) c.n_base.ensures.n_base)
     c.requires.plain.proper.n_base
 
 pub returns-clause-top : goal.returns-clause-top
@@ -35,5 +35,5 @@ returns-clause-top c =
     top_made (term_of c.args.term.now) c.args.order c.args.j _ _ _ c.in_ok-number.number.value c.as_slice.result.now c.in_ok-poly.ensures.gives.1
     (omega (arith, ints, c.from.ensures)) c.poly.ensures.poly c.in_ok-factors.ensures.product
     (c.in_ok-number.ensures.gives
-    ∙ number_is (term_of c.args.term.now) c.args.order c.args.j (whole_fraction (fraction_of c.n_base.result.now)) c.n_base.ensures.n_base)
+    ∙ number_is (term_of c.args.term.now) c.args.order c.args.j (number_fraction_of (fraction_of c.n_base.result.now)) c.n_base.ensures.n_base)
     (ap factors_of c.as_slice.ensures.value ∙ c.in_ok-forms.ensures.makes)
