@@ -4,6 +4,7 @@
 #   magnitudes  `mul` without that test: the product of the magnitudes decides each time
 #   numbers     the same products of lists with no bound checked but that of each number
 #   free        the same products of lists of numbers that wrap, with no bound at all
+# and then of a difference of the two, of a shift of the first by 1 in k, and of the quotient of their product by the second.
 # Wanted: `polys` at most 1.3 times as long as a product without any bound check.
 # The program is bench/products.txt. It is built twice in a folder of its own, over a copy of the crates below it; that proves them first.
 . "$(dirname "$0")/crates.sh"
@@ -40,12 +41,18 @@ def instructions(words):
     run = subprocess.run(tool + words, check=True, capture_output=True, text=True)
     return int(re.search(r"Collected : (\d+)", run.stderr).group(1))
 
+# the time and the instructions of one
+def measured(folder, way):
+    length = (seconds(command(folder, way, 20)) - seconds(command(folder, way, 0))) / 20
+    return length, instructions(command(folder, way, 2)) - instructions(command(folder, way, 1))
+
 figures = {}
 for name, folder, way in ways:
-    length = (seconds(command(folder, way, 20)) - seconds(command(folder, way, 0))) / 20
-    counted = instructions(command(folder, way, 2)) - instructions(command(folder, way, 1))
-    figures[name] = (length, counted)
+    figures[name] = measured(folder, way)
 for name, (length, counted) in figures.items():
     ratios = ["%.2f and %.2f of %s" % (length / figures[other][0], counted / figures[other][1], other) for other in ("numbers", "free")]
     print("%-10s  %6.2f ms  %6.2f million instructions  (%s)" % (name, length * 1e3, counted / 1e6, ", ".join(ratios)))
+for way in ("differences", "shifts", "quotients"):
+    length, counted = measured("tested", way)
+    print("%-11s %6.2f ms  %6.2f million instructions" % (way, length * 1e3, counted / 1e6))
 PY

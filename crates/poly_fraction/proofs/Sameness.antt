@@ -1,5 +1,5 @@
 -- Fractions that are the same as a third are the same.
-use Rattle.std.proofs.Common.{◌≡◌, [], ◌∷◌, refl, ap, sym, ◌∙◌}
+use Rattle.std.proofs.Common.{◌≡◌, [], ◌∷◌, refl, ap, ◌∙◌}
 use Rattle.ring_laws.specs.Algebra.{Algebra, Ops, Passing, Laws, within, same_passing}
 use Rattle.ring_laws.specs.Division.{DomainLaws}
 use Rattle.ring_solver.proofs.Read.{ring, reading}

@@ -40,6 +40,7 @@ pub record IsFraction (a : Algebra) (f : RingFraction) : Type 0 where
 abbrev pub whole_fraction : Ops Meaning → ℤ → RingFraction
 whole_fraction o w = record { top = o.whole w; bottom = o.unit }
 
+-- minus a fraction, by its numerator
 abbrev pub negative_fraction : Ops Meaning → RingFraction → RingFraction
 negative_fraction o f = record { top = o.neg f.top; bottom = f.bottom }
 

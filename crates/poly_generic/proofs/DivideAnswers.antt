@@ -1,6 +1,6 @@
 -- The steps of a division, from what the ring's calls answer.
-use Rattle.std.proofs.Common.{◌≡◌, ℕ, zero, suc, ◌+◌, ◌<◌, List, [], ◌∷◌, ◌++◌, map, length, get_or, take, drop, set, replicate, refl, sym, ap, ◌∙◌, subst, arith, Result, Ok, Err, Option, Some, IsErrAnd, option_to_list}
-use Rattle.std.proofs.lemmas.List.{length-map, map-append, take_more, take_more_set, drop-map, drop_more}
+use Rattle.std.proofs.Common.{◌≡◌, ℕ, zero, suc, ◌+◌, ◌<◌, List, [], ◌∷◌, ◌++◌, map, length, get_or, take, drop, set, replicate, refl, sym, ap, ◌∙◌, subst, arith, Result, Ok, Err, Option, IsErrAnd}
+use Rattle.std.proofs.lemmas.List.{length-map, map-append, append_assoc, get_or-drop, take_more, take_more_set, drop-map, drop_more}
 use Rattle.ring_laws.specs.declared.faults.RingFault.{RingFault}
 use Rattle.poly_generic.specs.ListAnswer.{DividesList}
 use Rattle.poly_laws.specs.Lists.{coefficient_at}
@@ -40,42 +40,47 @@ module _ {T : Type 0} (a : Algebra) (meaning : T → Meaning) where
       fault_weaker fault (λ n t.
       n (subst (λ u. ProductInBounds a c u) (at_item a.ops meaning ys i y p e) (t i (omega (arith, length-map ys meaning))).0)) h
 
-  pub difference_not : (xs : List T) (c : Meaning) (ys : List T) (i : ℕ) (x y : T) (part : Meaning) (fault : RingFault) → i < length xs
-      → i < length ys → x ≡ get_or xs i x → y ≡ get_or ys i y → part ≡ a.ops.product c (meaning y)
-      → OnFault (¬ (SumInBounds a (meaning x) part)) fault → OnFault (¬ (ReductionInBounds a (map meaning xs) c (map meaning ys))) fault
-  difference_not xs c ys i x y part fault p q e f g h =
-      let s = at_item a.ops meaning xs i x p e in
+  pub difference_not : (rs : List Meaning) (c : Meaning) (ys : List T) (i : ℕ) (x y : T) (part : Meaning) (fault : RingFault)
+      → coefficient_at a.ops rs i ≡ meaning x → i < length ys → y ≡ get_or ys i y → part ≡ a.ops.product c (meaning y)
+      → OnFault (¬ (SumInBounds a (meaning x) part)) fault → OnFault (¬ (ReductionInBounds a rs c (map meaning ys))) fault
+  difference_not rs c ys i x y part fault s q f g h =
       let t = at_item a.ops meaning ys i y q f in
       fault_weaker fault
       (λ n k. n (subst (λ u. SumInBounds a (meaning x) u) (ap (a.ops.product c) t
       ∙ sym g) (subst (λ u. SumInBounds a u (a.ops.product c (coefficient_at a.ops (map meaning ys) i))) s
       (k i (omega (arith, length-map ys meaning))).1))) h
 
+  -- the coefficient of what is left from a place on
+  pub left_at : (xs : List T) (from i : ℕ) (x : T) → from + i < length xs → x ≡ get_or xs (from + i) x
+      → coefficient_at a.ops (drop from (map meaning xs)) i ≡ meaning x
+  left_at xs from i x b e = get_or-drop from (map meaning xs) i a.ops.nought ∙ at_item a.ops meaning xs (from + i) x b e
+
   -- one difference more, in its place
-  pub less_more : (xs : List T) (c : Meaning) (ys old new : List T) (i : ℕ) (x y item : T) (part : Meaning) → length xs ≡ length ys → i < length ys
-      → i < length old → x ≡ get_or xs i x → y ≡ get_or ys i y → part ≡ a.ops.product c (meaning y)
-      → meaning item ≡ a.ops.sum (meaning x) (a.ops.neg part) → new ≡ set old i item
-      → map meaning (take i old) ≡ take i (list_less a.ops (map meaning xs) c (map meaning ys))
-      → map meaning (take (i + 1) new) ≡ take (i + 1) (list_less a.ops (map meaning xs) c (map meaning ys))
-  less_more xs c ys old new i x y item part n p q e f g h k made =
-      let zs : List Meaning = list_less a.ops (map meaning xs) c (map meaning ys) in
-      let l : length (map meaning xs) ≡ length (map meaning ys) = omega (arith, n, length-map xs meaning, length-map ys meaning) in
-      let b : i < length (map meaning xs) = omega (arith, n, p, length-map xs meaning) in
+  pub less_more : (before rs : List Meaning) (c : Meaning) (ys old new : List T) (i j : ℕ) (x y item : T) (part : Meaning)
+      → length rs ≡ length ys → i < length ys → j < length old → coefficient_at a.ops rs i ≡ meaning x → y ≡ get_or ys i y
+      → part ≡ a.ops.product c (meaning y) → meaning item ≡ a.ops.sum (meaning x) (a.ops.neg part) → new ≡ set old j item
+      → map meaning (take j old) ≡ before ++ take i (list_less a.ops rs c (map meaning ys))
+      → map meaning (take (j + 1) new) ≡ before ++ take (i + 1) (list_less a.ops rs c (map meaning ys))
+  less_more before rs c ys old new i j x y item part n p q e f g h k made =
+      let zs : List Meaning = list_less a.ops rs c (map meaning ys) in
+      let l : length rs ≡ length (map meaning ys) = omega (arith, n, length-map ys meaning) in
+      let b : i < length rs = omega (arith, n, p) in
       let d : i < length (map meaning ys) = omega (arith, p, length-map ys meaning) in
       let is : meaning item ≡ coefficient_at a.ops zs i =
       cc (
         h,
         g,
-        less_at a.ops (map meaning xs) c (map meaning ys) i b d,
-        at_item a.ops meaning xs i x (omega (arith, n, p)) e,
+        less_at a.ops rs c (map meaning ys) i b d,
+        e,
         at_item a.ops meaning ys i y p f,
       ) in
-      ap (λ t. map meaning (take (i + 1) t)) k
-      ∙ ap (map meaning) (take_more_set old i item q)
-      ∙ map-append meaning (take i old) (item ∷ [])
+      ap (λ t. map meaning (take (j + 1) t)) k
+      ∙ ap (map meaning) (take_more_set old j item q)
+      ∙ map-append meaning (take j old) (item ∷ [])
       ∙ ap (λ t. t ++ meaning item ∷ []) made
-      ∙ ap (λ t. take i zs ++ t ∷ []) is
-      ∙ sym (take_more zs i a.ops.nought (omega (arith, b, length-less a.ops (map meaning xs) c (map meaning ys) l)))
+      ∙ append_assoc before (take i zs) (meaning item ∷ [])
+      ∙ ap (λ t. before ++ (take i zs ++ t ∷ [])) is
+      ∙ ap (λ t. before ++ t) (sym (take_more zs i a.ops.nought (omega (arith, b, length-less a.ops rs c (map meaning ys) l))))
 
   -- the run, one coefficient further
   pub run_on : (xs : List T) (i : ℕ) (x : T) (qs rs front : List Meaning) (gs : List Meaning) (lead top : Meaning) (c : Passing a) → i < length xs
@@ -95,12 +100,6 @@ module _ {T : Type 0} (a : Algebra) (meaning : T → Meaning) where
   run_begin gs ms qs rs lead e f h =
       subst (λ t. Divided a gs lead t qs rs) (sym e)
       (subst (λ t. Divided a gs lead [] t rs) (sym f) (subst (λ t. Divided a gs lead [] [] t) (sym h) begin))
-
-  pub tops : (item x top : T) (rest longer new : List T) (last : Option T) → longer ≡ item ∷ rest → longer ≡ new ++ option_to_list last
-      → last ≡ Some top → meaning item ≡ meaning x → meaning x ∷ map meaning rest ≡ map meaning new ++ meaning top ∷ []
-  tops item x top rest longer new last e f h k =
-      let s : longer ≡ new ++ top ∷ [] = f ∙ ap (λ t. new ++ option_to_list t) h in
-      cc (k, ap (map meaning) e, ap (map meaning) s, map-append meaning new (top ∷ []))
 
   here : (xs : List T) (i : ℕ) (x : T) → i < length xs → x ≡ get_or xs i x → drop i (map meaning xs) ≡ meaning x ∷ map meaning (drop (i + 1) xs)
   here xs i x p e = drop-map meaning i xs ∙ ap (map meaning) (drop_more xs i x p) ∙ ap (λ v. meaning v ∷ map meaning (drop (i + 1) xs)) (sym e)

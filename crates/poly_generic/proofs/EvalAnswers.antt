@@ -69,16 +69,24 @@ module _ {T : Type 0} (a : Algebra) (l : Laws a) (meaning : T → Meaning)
       (subst a.ops.Fits is (fits bound), h ∙ ap (list_value a.ops (meaning v)) (sym (are xs)))
 
   -- the shift of the magnitudes is its own counterpart
-  pub shift_bound_fault : (t : T) (by_ : Meaning) (xs : List T) (size : Meaning) (sizes : List Meaning) (fault : RingFault) → meaning t ≡ by_
-      → size ≡ a.ops.magnitude (meaning t) → sizes ≡ map a.ops.magnitude (map meaning xs) → OnFault (¬ (ListShiftInBounds a size sizes)) fault
-      → OnFault (¬ (ListShiftInBounds a by_ (items (listed (map meaning xs))))) fault
-  shift_bound_fault t by_ xs size sizes fault w e f h =
-      let p : a.ops.magnitude size ≡ a.ops.magnitude by_ = ap a.ops.magnitude e ∙ again t ∙ ap a.ops.magnitude w in
-      let q : map a.ops.magnitude sizes ≡ map a.ops.magnitude (coefficients_of xs) =
-      ap (map a.ops.magnitude) f ∙ magnitudes_twice a l meaning passes fits xs ∙ ap (map a.ops.magnitude) (sym (are xs)) in
+  pub shift_bound_fault : (t : T) (xs : List T) (size : Meaning) (sizes : List Meaning) (fault : RingFault) → size ≡ a.ops.magnitude (meaning t)
+      → sizes ≡ map a.ops.magnitude (map meaning xs) → OnFault (¬ (ListShiftInBounds a size sizes)) fault
+      → OnFault (¬ (ListShiftInBounds a (meaning t) (map meaning xs))) fault
+  shift_bound_fault t xs size sizes fault e f h =
+      let p : a.ops.magnitude size ≡ a.ops.magnitude (meaning t) = ap a.ops.magnitude e ∙ again t in
+      let q : map a.ops.magnitude sizes ≡ map a.ops.magnitude (m xs) = ap (map a.ops.magnitude) f ∙ magnitudes_twice a l meaning passes fits xs in
       fault_weaker fault
       (λ n s. n (λ k. subst (λ z. a.ops.Fits (coefficient_at a.ops (list_shift a.ops z (map a.ops.magnitude sizes)) k)) (sym p)
-      (subst (λ z. a.ops.Fits (coefficient_at a.ops (list_shift a.ops (a.ops.magnitude by_) z) k)) (sym q) (s k)))) h
+      (subst (λ z. a.ops.Fits (coefficient_at a.ops (list_shift a.ops (a.ops.magnitude (meaning t)) z) k)) (sym q) (s k)))) h
+
+  -- where it is a list of values, the shift is in bounds
+  pub shift_bounded : (t : T) (xs bound : List T) (size : Meaning) (sizes : List Meaning) → size ≡ a.ops.magnitude (meaning t)
+      → sizes ≡ map a.ops.magnitude (map meaning xs) → map meaning bound ≡ list_shift a.ops size sizes
+      → ListShiftInBounds a (meaning t) (map meaning xs)
+  shift_bounded t xs bound size sizes e f b k =
+      let is : m bound ≡ list_shift a.ops (a.ops.magnitude (meaning t)) (map a.ops.magnitude (m xs)) =
+      b ∙ ap (λ y. list_shift a.ops y sizes) e ∙ ap (list_shift a.ops (a.ops.magnitude (meaning t))) f in
+      subst (λ y. a.ops.Fits (coefficient_at a.ops y k)) is (each_fits a meaning l.magnitudes.fits_nought fits bound k)
 
   pub shift_list_fault : (t : T) (by_ : Meaning) (xs : List T) (fault : RingFault) → meaning t ≡ by_
       → OnFault (¬ (ListShiftInBounds a (meaning t) (map meaning xs))) fault
@@ -86,23 +94,19 @@ module _ {T : Type 0} (a : Algebra) (l : Laws a) (meaning : T → Meaning)
   shift_list_fault t by_ xs fault w h =
       fault_weaker fault (λ n s. n (subst (λ z. ListShiftInBounds a z (m xs)) (sym w) (subst (λ z. ListShiftInBounds a by_ z) (are xs) s))) h
 
-  pub shift_given : {Q : Type 0} (mean : Q → Meaning) (t : T) (by_ : ℤ) (xs bound : List T) (size : Meaning) (sizes zs : List Meaning)
-      (r : Result Q RingFault)
-      → meaning t ≡ a.ops.whole by_ → size ≡ a.ops.magnitude (meaning t) → sizes ≡ map a.ops.magnitude (map meaning xs) → length xs ≤ 256
-      → map meaning bound ≡ list_shift a.ops size sizes → zs ≡ list_shift a.ops (meaning t) (map meaning xs)
+  pub shift_given : {Q : Type 0} (mean : Q → Meaning) (t : T) (by_ : ℤ) (xs : List T) (zs : List Meaning) (r : Result Q RingFault)
+      → meaning t ≡ a.ops.whole by_ → length xs ≤ 256 → ListShiftInBounds a (meaning t) (map meaning xs)
+      → zs ≡ list_shift a.ops (meaning t) (map meaning xs)
       → GivesInBounds mean (length (trimmed a.ops zs) ≤ 256) (listed (trimmed a.ops zs)) r
       → GivesInBounds mean (ListShiftInBounds a (a.ops.whole by_) (items (listed (map meaning xs))))
       (poly_shift a.ops by_ (listed (map meaning xs))) r
-  shift_given mean t by_ xs bound size sizes zs (Ok q) w e f short b z h =
-      let p : sizes ≡ map a.ops.magnitude (coefficients_of xs) = f ∙ ap (map a.ops.magnitude) (sym (are xs)) in
-      let is : m bound ≡ list_shift a.ops (a.ops.magnitude (a.ops.whole by_)) (map a.ops.magnitude (coefficients_of xs)) =
-      b ∙ ap (λ y. list_shift a.ops y sizes) (e ∙ ap a.ops.magnitude w) ∙ ap (list_shift a.ops (a.ops.magnitude (a.ops.whole by_))) p in
+  shift_given mean t by_ xs zs (Ok q) w short b z h =
       let list : zs ≡ list_shift a.ops (a.ops.whole by_) (coefficients_of xs) =
       z ∙ ap (λ y. list_shift a.ops y (m xs)) w ∙ ap (list_shift a.ops (a.ops.whole by_)) (sym (are xs)) in (
-        (λ k. subst (λ y. a.ops.Fits (coefficient_at a.ops y k)) is (each_fits a meaning l.magnitudes.fits_nought fits bound k)),
+        subst (λ y. ListShiftInBounds a y (coefficients_of xs)) w (subst (λ y. ListShiftInBounds a (meaning t) y) (sym (are xs)) b),
         h.1 ∙ ap (λ y. listed (trimmed a.ops y)) list,
       )
-  shift_given mean t by_ xs bound size sizes zs (Err fault) w e f short b z h =
+  shift_given mean t by_ xs zs (Err fault) w short b z h =
       let n : length zs ≡ length xs = ap length z ∙ length-list_shift a.ops (meaning t) (m xs) ∙ length-map xs meaning in
       fault_weaker fault (λ k. absurd (k (omega (arith, length-trimmed a.ops zs, n, short)))) h
 

@@ -11,6 +11,7 @@ pub mod ProductAnswers
 pub mod SureProducts
 pub mod EasyProducts
 pub mod DivideAnswers
+pub mod Rests
 pub mod DomainAnswers
 pub mod MultipleAnswers
 pub mod StepAnswers
@@ -18,3 +19,4 @@ pub mod Raising
 pub mod EvalAnswers
 pub mod SquaringSteps
 pub mod InnerShiftAnswers
+pub mod SureShifts

@@ -14,7 +14,7 @@ module _ {A : Type 0} (o : Ops A) (l : RingLaws o) (m : MagnitudeLaws o) where
   sum_is_magnitude [] = m.of_nought
   sum_is_magnitude (x ∷ xs) = sum_magnitude o l m (o.magnitude x) (magnitude_sum o xs) (m.of_magnitude x) (sum_is_magnitude xs)
 
-  covers_nought : (x : A) → o.magnitude x ≡ x → o.Covers x o.nought
+  pub covers_nought : (x : A) → o.magnitude x ≡ x → o.Covers x o.nought
   covers_nought x e = covers_by o l m (sym (l.nought_sum x)) refl (left_part o l m o.nought x e)
 
   -- it covers each magnitude

@@ -14,6 +14,8 @@ mod polys;
 mod powers;
 mod products;
 
+pub use division::all_zero;
+pub use lists::negatives;
 pub use polys::{Poly, Zn, Znk};
 pub use powers::times_power;
 

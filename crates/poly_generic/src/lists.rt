@@ -60,6 +60,36 @@ pub fn sums<R: Ring>(alloc: Global, a: &[R], b: &[R]) -> Result<Vec<R>, RingFaul
     Ok(out)
 }
 
+// The difference of two coefficients at a power, where one may be missing.
+fn difference_at<R: Ring>(alloc: Global, a: &[R], b: &[R], power: usize) -> Result<R, RingFault>
+    requires in_range { (power < length a.now) ⊎ (power < length b.now) }
+    ensures { GivesInBounds R.meaning (SumInBoundsAt R.algebra (map R.meaning a.now) (map R.meaning b.now) power)
+        (coefficient_at R.algebra.ops (list_sum R.algebra.ops (map R.meaning a.now) (map R.algebra.ops.neg (map R.meaning b.now))) power) result }
+{
+    if power >= a.len() {
+        return b[power].neg(alloc);
+    }
+    if power >= b.len() {
+        return a[power].duplicate(alloc);
+    }
+    a[power].sub(alloc, &b[power])
+}
+
+// The differences of the coefficients.
+pub fn differences<R: Ring>(alloc: Global, a: &[R], b: &[R]) -> Result<Vec<R>, RingFault>
+    ensures { GivesListInBounds R.meaning (ListSumInBounds R.algebra (map R.meaning a.now) (map R.meaning b.now))
+        (list_sum R.algebra.ops (map R.meaning a.now) (map R.algebra.ops.neg (map R.meaning b.now))) result }
+{
+    let count = a.len().max(b.len());
+    let mut out = Vec::new(alloc);
+    let _room = out.reserve(count);
+    for power in 0..count {
+        let item = difference_at(alloc, a, b, power)?;
+        out.push(item)?;
+    }
+    Ok(out)
+}
+
 // The coefficient of the product at the sum of two places: the products of the coefficients of `a` from `last` down with those of `b` from
 // `first` up, as far as both go, where that is all of them.
 fn product_at<R: Ring>(
@@ -124,7 +154,7 @@ pub fn copies<R: Ring>(alloc: Global, list: &[R]) -> Result<Vec<R>, RingFault>
     Ok(out)
 }
 
-// The negative of each coefficient.
+/// The negative of each coefficient.
 pub fn negatives<R: Ring>(alloc: Global, list: &[R]) -> Result<Vec<R>, RingFault>
     ensures { GivesList R.meaning ⊤ (map R.algebra.ops.neg (map R.meaning list.now)) result }
 {

@@ -14,8 +14,8 @@ ghost use Rattle.poly_generic.specs.ListAnswer.{GivesListInBounds};
 ghost use Rattle.poly_laws.proofs.Belonging.{value_passes, value_fits};
 
 use crate::division::{all_zero, divide_lists};
-use crate::evaluation::{shift_of_list, value_of_list};
-use crate::lists::{copies, magnitudes, negatives, same_lists, sums, trim};
+use crate::evaluation::{bounded_shift, value_of_list};
+use crate::lists::{copies, differences, magnitudes, negatives, same_lists, sums, trim};
 use crate::multiples::are_times;
 use ring_laws::{Domain, Ring, RingFault, Whole};
 use std::alloc::Global;
@@ -121,10 +121,7 @@ impl<R: Ring> Poly<R> {
             (poly_shift R.algebra.ops by.value (⟦<Poly<R> as Ring>⟧.meaning self.now)) result }
     {
         let by = R::whole(alloc, by)?;
-        let sizes = magnitudes(alloc, &self.list)?;
-        let size = by.magnitude(alloc)?;
-        let _bound = shift_of_list(alloc, &sizes, &size)?;
-        let list = shift_of_list(alloc, &self.list, &by)?;
+        let list = bounded_shift(alloc, &self.list, &by)?;
         Poly::from_coefficients(list)
     }
 }
@@ -214,8 +211,8 @@ impl<R: Ring> Ring for Poly<R> {
     }
 
     fn sub(&self, alloc: Global, other: &Poly<R>) -> Result<Poly<R>, RingFault> {
-        let other = other.neg(alloc)?;
-        self.add(alloc, &other)
+        let list = differences(alloc, &self.list, &other.list)?;
+        Poly::from_coefficients(list)
     }
 
     fn mul(&self, alloc: Global, other: &Poly<R>) -> Result<Poly<R>, RingFault> {

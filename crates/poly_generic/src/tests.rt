@@ -1,3 +1,4 @@
+use crate::evaluation::{bounded_shift, shift_by_magnitudes};
 use crate::{Poly, Zn, Znk, times_power};
 use ring_laws::{Domain, Ring, RingFault, Whole};
 use std::alloc::Global;
@@ -73,8 +74,12 @@ fn cancelled_numbers_are_too_large(rt: HostRuntime) -> Result<(), RingFault> {
     Ok(())
 }
 
-// Whether two products answer alike, with a value exactly where there should be one.
-fn are_alike(a: &Result<Znk, RingFault>, b: &Result<Znk, RingFault>, is_in_bounds: bool) -> bool {
+// Whether two answers are alike, with a value exactly where there should be one.
+fn are_alike<R: Ring>(
+    a: &Result<R, RingFault>,
+    b: &Result<R, RingFault>,
+    is_in_bounds: bool,
+) -> bool {
     match (a, b) {
         (Ok(a), Ok(b)) => is_in_bounds && a.same(b),
         (Err(a), Err(b)) => !is_in_bounds && a == b,
@@ -99,6 +104,38 @@ fn both_products_answer_alike(rt: HostRuntime) -> Result<(), RingFault> {
             are_alike(
                 &left.mul(alloc, &right),
                 &left.product_by_magnitudes(alloc, &right),
+                is_in_bounds
+            )
+        );
+    }
+    Ok(())
+}
+
+// The line at n + 1, with the cheap test of its bounds, and where the shift of the magnitudes decides.
+fn shifted_line(alloc: Global, line: &[Whole], is_tested: bool) -> Result<Zn, RingFault> {
+    let list = if is_tested {
+        bounded_shift(alloc, line, &Whole::ONE)?
+    } else {
+        shift_by_magnitudes(alloc, line, &Whole::ONE)?
+    };
+    Poly::from_coefficients(list)
+}
+
+// So it is with shifts by 1: with half at 2^126 the value of the magnitudes at 2 shows nothing of the second row.
+#[test]
+fn both_shifts_answer_alike(rt: HostRuntime) -> Result<(), RingFault> {
+    let alloc = rt.alloc();
+    let half: i128 = 1 << 126;
+    for (constant, slope, is_in_bounds) in [
+        (5, -2, true),
+        (half, half - 1, true),
+        (half, -half, false),
+    ] {
+        let line = numbers::<Whole>(alloc, &[constant, slope])?;
+        assert!(rt;
+            are_alike(
+                &shifted_line(alloc, line.coefficients(), true),
+                &shifted_line(alloc, line.coefficients(), false),
                 is_in_bounds
             )
         );

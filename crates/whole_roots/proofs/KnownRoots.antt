@@ -1,9 +1,10 @@
 -- Signs, values, differences and roots that are known from elsewhere, so that a wrong rule in specs/ does not check.
-use Rattle.std.specs.Prelude.{◌≡◌, pos, negsuc, ◌^◌, ◌-◌, ◌+◌, ◌<◌, [], ◌∷◌, refl}
+use Rattle.std.specs.Prelude.{◌≡◌, zero, suc, pos, negsuc, ◌^◌, ◌-◌, ◌+◌, ◌<◌, [], ◌∷◌, refl}
+use Rattle.std.proofs.Common.{arith, lit<}
 use Rattle.ring_laws.specs.Meaning.{Meaning, number, listed}
 use Rattle.ring_laws.specs.declared.wholes.Sign.TheVariants.{Negative, Zero, Positive}
 use Rattle.whole_roots.specs.Signs.{sign_of, value}
-use Rattle.whole_roots.specs.Differences.{difference, iterated_difference, DifferenceInBounds}
+use Rattle.whole_roots.specs.Differences.{difference, iterated_difference, DifferenceInBounds, DifferencesInBounds}
 use Rattle.whole_roots.specs.Roots.{IsRoot}
 use Rattle.whole_roots.specs.Turns.{greatest, least}
 
@@ -24,9 +25,30 @@ known_differences : (difference square ≡ listed (number (negsuc 1) ∷ number 
     × (iterated_difference 2 square ≡ listed (number (pos 2) ∷ []))
 known_differences = (refl, refl)
 
--- the counterpart of the difference of n - 2^126 has the constant 1 + 2^126 + 2^126, which passes 127 bits
-known_bounds : DifferenceInBounds (listed (number (negsuc (2 ^ 126 - 1)) ∷ number (pos 1) ∷ [])) → 2 ^ 127 + 1 < 2 ^ 127
-known_bounds h = h 0
+-- the counterpart of its difference is 2*n^2 + 8*n + 8, and that of the next one 4*n + 6
+difference_in : DifferenceInBounds square
+difference_in zero = lit< tt
+difference_in (suc zero) = lit< tt
+difference_in (suc (suc zero)) = lit< tt
+difference_in (suc (suc (suc k))) = lit< tt
+
+differences_in : DifferencesInBounds square
+differences_in zero below k = difference_in k
+differences_in (suc zero) below zero = lit< tt
+differences_in (suc zero) below (suc zero) = lit< tt
+differences_in (suc zero) below (suc (suc k)) = lit< tt
+differences_in (suc (suc j)) below k = absurd (omega (arith, below))
+
+-- n - 2^126
+abbrev wide : Meaning
+wide = listed (number (negsuc (2 ^ 126 - 1)) ∷ number (pos 1) ∷ [])
+
+-- the counterpart of its difference has the constant 1 + 2^126 + 2^126, which passes 127 bits
+difference_out : ¬ (DifferenceInBounds wide)
+difference_out h = let passed : 2 ^ 127 + 1 < 2 ^ 127 = h 0 in omega (arith, passed)
+
+differences_out : ¬ (DifferencesInBounds wide)
+differences_out h = difference_out (h 0 (omega arith))
 
 -- the greatest number and the least
 known_ends : (greatest ≡ pos (2 ^ 127 - 1)) × (least ≡ negsuc (2 ^ 127 - 2))

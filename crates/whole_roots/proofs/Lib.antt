@@ -16,7 +16,7 @@ pub mod FactorRoots
 mod FactorLeads
 mod FactorSteps
 mod NextParts
-mod RootFactors
+pub mod RootFactors
 mod FormParts
 mod FormLengths
 mod Stretching

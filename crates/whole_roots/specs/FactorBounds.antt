@@ -24,6 +24,7 @@ DivisionsInBounds u v f =
     (e : ℕ) (quotient : Passing polynomials) → polynomials.ops.product quotient.0 (form_power u v e) ≡ f
     → DivisionInBounds whole_algebra (λ (x y : Meaning). ⊤) quotient.0 (linear (pos u) v)
 
+-- each step of finding the linear factors of f is in bounds
 pub record FactorsInBounds (f : Meaning) : Type 0 where
   -- for each slope each number f_i * u^(degree - i) fits
   pub numbers : (u : ℕ) → 1 ≤ u → u ≤ 4 → (k : ℕ) → whole_algebra.ops.Fits (coefficient_at whole_algebra.ops (stretched_list u (items f)) k)

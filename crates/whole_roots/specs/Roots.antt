@@ -3,6 +3,7 @@ use Rattle.std.specs.Prelude.{◌≡◌, ℤ, pos, ◌<ℤ◌, ◌⊎◌, List, 
 use Rattle.ring_laws.specs.Meaning.{Meaning}
 use Rattle.whole_roots.specs.Signs.{value}
 
+-- the value of f at z is 0
 abbrev pub IsRoot : Meaning → ℤ → Type 0
 IsRoot f z = value f z ≡ pos 0
 

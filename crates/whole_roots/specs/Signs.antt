@@ -5,6 +5,7 @@ use Rattle.ring_laws.specs.declared.wholes.Sign.{Sign}
 use Rattle.ring_laws.specs.declared.wholes.Sign.TheVariants.{Negative, Zero, Positive}
 use Rattle.poly_laws.specs.Values.{value_at}
 
+-- whether a number is zero, positive or negative
 abbrev pub sign_of : ℤ → Sign
 sign_of (pos zero) = Zero
 sign_of (pos (suc n)) = Positive

@@ -2,13 +2,15 @@
 use Rattle.std.specs.Prelude.{◌≡◌, ◌^◌, ◌-◌, ℤ, pos, negsuc, ◌+ℤ◌, ◌≤ℤ◌, ◌<ℤ◌, ◌⊎◌, List, [], ◌∷◌}
 use Rattle.whole_roots.specs.Signs.{sign_of}
 
--- the greatest whole number of 127 bits, and its negative
+-- the greatest whole number of 127 bits
 abbrev pub greatest : ℤ
 greatest = pos (2 ^ 127 - 1)
 
+-- the negative of that, the least whole number of 127 bits and a sign
 abbrev pub least : ℤ
 least = negsuc (2 ^ 127 - 2)
 
+-- the values at x and at y are both negative, both zero or both positive
 abbrev pub SameSign : (ℤ → ℤ) → ℤ → ℤ → Type 0
 SameSign f x y = sign_of (f x) ≡ sign_of (f y)
 
@@ -25,9 +27,11 @@ AreAll P low high (x ∷ xs) = ((low <ℤ x) × (x ≤ℤ high)) × (P x × (((z
 abbrev pub Rises : (ℤ → ℤ) → ℤ → ℤ → Type 0
 Rises f start end = (x y : ℤ) → start ≤ℤ x → x ≤ℤ y → y ≤ℤ end → f x ≤ℤ f y
 
+-- the values never rise from start to end
 abbrev pub Falls : (ℤ → ℤ) → ℤ → ℤ → Type 0
 Falls f start end = (x y : ℤ) → start ≤ℤ x → x ≤ℤ y → y ≤ℤ end → f y ≤ℤ f x
 
+-- the values never rise from start to end, or never fall
 abbrev pub IsMonotone : (ℤ → ℤ) → ℤ → ℤ → Type 0
 IsMonotone f start end = Rises f start end ⊎ Falls f start end
 

@@ -1,9 +1,10 @@
 use Rattle.std.proofs.Common.{map, ◌≡◌}
+use Rattle.std.proofs.lemmas.List.{length-map}
 use Rattle.poly_laws.specs.Bounds.{ListSumInBounds}
 use Rattle.poly_laws.specs.Lists.{list_sum}
 use Rattle.ring_laws.specs.Answer.{OnFault}
 use Rattle.poly_generic.proofs.PolyAnswers.{fault_poly, two}
-use Rattle.poly_generic.proofs.SumAnswers.{sum_fault, sum_given}
+use Rattle.poly_generic.proofs.SumAnswers.{sum_fault, sum_given, sum_is}
 use Rattle.poly_generic.proofs.polys.PolyRing.add.Goals as goal
 
 pub returns-in_err-list : goal.returns-in_err-list
@@ -27,6 +28,9 @@ returns g c =
     record {
       gives =
           sum_given g.R.Ring.algebra g.met.R.Ring.laws g.R.Ring.meaning g.met.R.Ring.passes g.met.R.Ring.fits _ c.args.self.now.list.items
-          c.args.other.now.list.items (map g.R.Ring.meaning c.in_ok-list.list.items) c.from_coefficients.result
-          c.args.self.now.ended c.args.other.now.ended c.args.self.now.short c.args.other.now.short h.0 h.1 c.from_coefficients.ensures.gives;
+          c.args.other.now.list.items (map g.R.Ring.meaning c.in_ok-list.list.items) (map g.R.Ring.meaning c.args.other.now.list.items) _
+          c.from_coefficients.result c.args.self.now.ended c.args.other.now.ended c.args.self.now.short c.args.other.now.short h.0
+          (length-map c.args.other.now.list.items g.R.Ring.meaning) h.1
+          (sum_is g.R.Ring.algebra g.met.R.Ring.laws g.R.Ring.meaning g.met.R.Ring.passes g.met.R.Ring.fits c.args.self.now.list.items
+          c.args.other.now.list.items) c.from_coefficients.ensures.gives;
     }

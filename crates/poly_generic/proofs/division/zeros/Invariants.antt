@@ -1,5 +1,0 @@
-use Rattle.std.proofs.Common.{◌≡◌, map, replicate}
-use Rattle.poly_generic.proofs.division.zeros.Given as goal
-
-abbrev pub invariant-loop-at : goal.invariant-loop-at
-invariant-loop-at g l = map g.R.Ring.meaning l.out.items ≡ replicate l.at g.R.Ring.algebra.ops.nought
