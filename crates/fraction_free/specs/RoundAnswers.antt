@@ -42,6 +42,7 @@ RoundInBounds InBounds a r t column rows place =
     (before after : List (List Meaning)) (pivot : List Meaning) → rows ≡ before ++ pivot ∷ after → place ≡ length before
     → All (ClearingInBounds InBounds a r t column pivot) (before ++ after) × r.CoreInBounds (entry_at a.ops pivot column)
 
+-- the rows after the round, its pivot row and core; `TooLarge` only where a step isn't in bounds
 abbrev pub GivesRound : {T : Type 0} → (T → Meaning) → (a : Algebra) → Reduction → Meaning → ℕ → List (List Meaning) → ℕ → Type 0
     → Result (Round T) RingFault → Type 0
 GivesRound meaning a r t column rows place InBounds (Ok round) =

@@ -15,6 +15,7 @@ use Rattle.kernel_laws.specs.BackSubstitution.{BackRun, FreeVectors, BackInBound
 abbrev pub Vector : Algebra → Type 0
 Vector a = ℕ → Passing a
 
+-- entry k of a vector as a meaning
 abbrev pub meant : (a : Algebra) → Vector a → ℕ → Meaning
 meant a v k = (v k).0
 

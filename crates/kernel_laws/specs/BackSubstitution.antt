@@ -32,6 +32,7 @@ pub data Absorbed (a : Algebra) (t s : Meaning) (vector : List Meaning) : Meanin
   quotient : (q : Passing a) → a.ops.product q.0 t ≡ s → Absorbed a t s vector q.0 vector
   multiple : ¬ (HasQuotient a t s) → Absorbed a t s vector s (map (a.ops.product t) vector)
 
+-- the division of s by t is in bounds, and where t doesn't divide s so is each product of t with an entry
 pub record AbsorbingInBounds (InBounds : Meaning → Meaning → Type 0) (a : Algebra) (t s : Meaning) (vector : List Meaning) : Type 0 where
   pub division : InBounds s t
   pub products : ¬ (HasQuotient a t s) → (k : ℕ) → k < length vector → ProductInBounds a t (entry_at a.ops vector k)
@@ -50,6 +51,7 @@ pub record BackStep (a : Algebra) (r : Reduction) (columns column : ℕ) (row ol
   pub by_plain : Absorbed a plain rest middle entry last
   pub reduced : r.Reduced (set last column entry) new
 
+-- each operation of that step is in bounds
 pub record BackStepInBounds (InBounds : Meaning → Meaning → Type 0) (a : Algebra) (r : Reduction) (columns column : ℕ)
     (row old : List Meaning) : Type 0 where
   pub times : TimesInBounds a columns row old

@@ -51,6 +51,7 @@ pub record ChosenOf (a : Algebra) (r : Reduction) (column : ℕ) (rows : List (L
   pub least : (k : ℕ) → k < n → IsCandidate a column rows k → r.weight (entry a rows place column) ≤ r.weight (entry a rows k column)
   pub first : (k : ℕ) → k < place → IsCandidate a column rows k → r.weight (entry a rows place column) < r.weight (entry a rows k column)
 
+-- the row at the place is the best of all rows to clear the column with
 abbrev pub Chosen : (a : Algebra) → (r : Reduction) → (column : ℕ) → (rows : List (List Meaning)) → (place : ℕ) → Type 0
 Chosen a r column rows place = ChosenOf a r column rows (length rows) place
 

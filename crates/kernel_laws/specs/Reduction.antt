@@ -4,6 +4,7 @@ use Rattle.ring_laws.specs.Meaning.{Meaning}
 use Rattle.ring_laws.specs.Algebra.{Algebra, Passing}
 use Rattle.kernel_laws.specs.Rows.{entry_at}
 
+-- how rows are reduced and entries split into a plain part and a core, and when that is in bounds
 pub record Reduction : Type 1 where
   -- of two entries that could be a pivot, the one of less weight is taken
   pub weight : Meaning → ℕ

@@ -20,6 +20,7 @@ abbrev pub CrossInBounds : Algebra → Meaning → Meaning → Meaning → Meani
 CrossInBounds a p x e y =
     a.ops.Fits (a.ops.sum (a.ops.product (a.ops.magnitude p) (a.ops.magnitude x)) (a.ops.product (a.ops.magnitude e) (a.ops.magnitude y)))
 
+-- that fits at each column of two rows
 abbrev pub CrossingInBounds : Algebra → Meaning → List Meaning → Meaning → List Meaning → Type 0
 CrossingInBounds a p xs e ys = (k : ℕ) → k < length xs → CrossInBounds a p (entry_at a.ops xs k) e (entry_at a.ops ys k)
 

@@ -21,7 +21,7 @@ abbrev times : Passing polynomials → Row → Row
 times t row = scaled polynomials laws domain t row
 
 -- a multiple of a multiple of t is one of t
-multiple_of : (t f : Passing polynomials) (rest : Row) → times f (times t rest) ≡ times t (times f rest)
+pub multiple_of : (t f : Passing polynomials) (rest : Row) → times f (times t rest) ≡ times t (times f rest)
 multiple_of t f rest =
     scaled_twice polynomials laws domain f t rest ∙ ap (λ s. times s rest) (laws.ring.product_comm t f)
     ∙ sym (scaled_twice polynomials laws domain t f rest)

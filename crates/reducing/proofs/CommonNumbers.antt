@@ -26,10 +26,10 @@ use Rattle.reducing.proofs.RowContents.{first_part, last_part}
 use Rattle.reducing.proofs.ContentQuotients.{o, polys, parts, by_number}
 
 -- ---- of the coefficients of a list
-abbrev size_at : List (Passing whole_algebra) → ℕ → ℕ
+abbrev pub size_at : List (Passing whole_algebra) → ℕ → ℕ
 size_at xs k = unsigned_abs (number_of (coefficient_at o xs k).0)
 
-abbrev DividesEach : ℕ → List (Passing whole_algebra) → Type 0
+abbrev pub DividesEach : ℕ → List (Passing whole_algebra) → Type 0
 DividesEach d xs = (k : ℕ) → d ∣ size_at xs k
 
 of_lists : (d : ℕ) (xs ys : List (Passing whole_algebra)) → DividesEach d ys → DividesEach d (list_product o xs ys)
@@ -74,7 +74,7 @@ pub of_each : (d : ℕ) (x : Passing polynomials) → DividesEach d (parts x) �
 of_each d x h = of_all d (parts x) (items x.0) (meanings-coefficients whole_algebra whole_laws.closed x) h
 
 -- ---- of the rows
-both_parts : (d : ℕ) (xs ys : List ℕ) → DividesAll d xs → DividesAll d ys → DividesAll d (xs ++ ys)
+pub both_parts : (d : ℕ) (xs ys : List ℕ) → DividesAll d xs → DividesAll d ys → DividesAll d (xs ++ ys)
 both_parts d [] ys h k = k
 both_parts d (x ∷ xs) ys h k = (h.0, both_parts d xs ys h.1 k)
 

@@ -20,7 +20,7 @@ use Rattle.reducing.proofs.CommonNumbers.{no_common_number}
 abbrev times : Passing polynomials → Row → Row
 times t row = scaled polynomials laws domain t row
 
-abbrev AreForms : List (ℕ × ℤ) → Type 0
+abbrev pub AreForms : List (ℕ × ℤ) → Type 0
 AreForms xs = AllByRecursion (λ (x : ℕ × ℤ). IsProfileForm x.0 x.1) xs
 
 -- forms whose product, times the new row, is the old row

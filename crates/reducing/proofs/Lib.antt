@@ -22,3 +22,6 @@ pub mod Constants
 pub mod ReducedVectors
 pub mod WholeVectors
 pub mod LeftRows
+mod Cofactors
+mod FormsBeside
+pub mod OneRowLeft

@@ -22,6 +22,7 @@ IsMost t power row = (rest : Row) → ¬ (row ≡ times_row polynomials (raised_
 abbrev pub FactorInBounds : Meaning → List Meaning → Type 0
 FactorInBounds t old = (row : Row) → old ≡ meant row → TakingOutInBounds DivisionOfPolynomials polynomials t row
 
+-- taking all the linear factors out of the row, one after another, is in bounds
 abbrev pub FactorsOfRowInBounds : List Entry → List Meaning → Type 0
 FactorsOfRowInBounds entries old = (row : Row) → old ≡ meant row → AllTakingOutInBounds DivisionOfPolynomials polynomials (forms entries) row
 

@@ -18,6 +18,7 @@ use Rattle.reducing.specs.TakenOut.{times_row, AllTakenOut, AllTakingOutInBounds
 abbrev pub Row : Type 0
 Row = List (Passing polynomials)
 
+-- the entries of a row as meanings
 abbrev pub meant : Row → List Meaning
 meant row = bare polynomials row
 
@@ -29,6 +30,7 @@ degree f = length (items f) - 1
 abbrev pub IsNonzeroAt : List Meaning → ℕ → Type 0
 IsNonzeroAt row k = IsFalse (polynomials.ops.is_nought (entry_at polynomials.ops row k))
 
+-- the degree of entry k
 abbrev pub degree_at : List Meaning → ℕ → ℕ
 degree_at row k = degree (entry_at polynomials.ops row k)
 
@@ -39,6 +41,7 @@ pub record IsLeastOf (row : List Meaning) (n place : ℕ) : Type 0 where
   pub least : (k : ℕ) → k < n → IsNonzeroAt row k → degree_at row place ≤ degree_at row k
   pub first : (k : ℕ) → k < place → IsNonzeroAt row k → degree_at row place < degree_at row k
 
+-- the first of all entries of least degree that aren't zero
 abbrev pub IsLeast : List Meaning → ℕ → Type 0
 IsLeast row place = IsLeastOf row (length row) place
 
@@ -73,6 +76,7 @@ pub record OfRows (R : Row → Row → Type 0) (old new : List Meaning) : Type 0
   pub result_is : new ≡ meant result
   pub holds : R row result
 
+-- two lists of meanings are a row of polynomials and that row reduced
 abbrev pub PolynomialsReduced : List Meaning → List Meaning → Type 0
 PolynomialsReduced old new = OfRows Reduced old new
 
@@ -129,6 +133,7 @@ pub record SplittingInBounds (x : Meaning) : Type 0 where
   pub product : (content : ℤ) (part core quotient : Meaning) → IsTimesContent x content part → IsCore x core
       → polynomials.ops.product quotient core ≡ part → ProductInBounds polynomials quotient (polynomials.ops.whole content)
 
+-- how rows of polynomials are reduced: the entry of less degree is the better pivot
 abbrev pub polynomial_reduction : Reduction
 polynomial_reduction = record {
   weight = degree;

@@ -28,6 +28,7 @@ pub record WholeSplit (x plain core : Meaning) : Type 0 where
   pub plain_is : plain ≡ number value
   pub core_is : core ≡ number (pos 1)
 
+-- how rows of whole numbers are reduced: of two numbers neither is the better pivot, and each step is in bounds
 abbrev pub whole_reduction : Reduction
 whole_reduction = record {
   weight = λ x. 0;

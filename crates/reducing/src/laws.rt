@@ -1,6 +1,6 @@
 //! What a reduction leaves, and so what the vectors of elimination have, as laws.
 
-ghost use Rattle.std.specs.Prelude.{List, ℕ, All};
+ghost use Rattle.std.specs.Prelude.{◌≡◌, List, ℕ, All};
 ghost use Rattle.ring_laws.specs.Meaning.{Meaning};
 ghost use Rattle.ring_laws.specs.Wholes.{whole_algebra};
 ghost use Rattle.poly_divide.specs.Content.{row_sizes, IsContent};
@@ -29,6 +29,13 @@ pub fn no_content_is_left()
 /// to 4 and prime to v, it is the row, its coefficients have no common divisor above 1, and no such form divides every entry of it.
 pub fn reduced_rows_are_what_is_left()
     ensures law { (old new : List Meaning) → PolynomialsReduced old new → IsSomeNonzero new → IsWhatIsLeft old new }
+{}
+
+/// Of a row of polynomials one row is left: two rows that each are what is left of it are the same, with the same signs, and so the reduced row is
+/// that one.
+pub fn one_row_is_left()
+    ensures law { (old new other : List Meaning) → IsWhatIsLeft old new → IsWhatIsLeft old other → new ≡ other }
+    ensures reduced { (old new other : List Meaning) → PolynomialsReduced old new → IsSomeNonzero new → IsWhatIsLeft old other → new ≡ other }
 {}
 
 /// Of a vector of polynomials that the steps of elimination and back substitution give, neither a whole number above 1 nor a form `u*n + v` with u

@@ -20,24 +20,30 @@ use Rattle.reducing.specs.Laws.RowPowers.{raised_meant}
 use Rattle.reducing.specs.Laws.OneTakenOut.{IsFactor}
 use Rattle.reducing.specs.PolynomialRows.{forms}
 
+-- polynomials over the whole numbers keep all laws of a ring
 abbrev pub laws : Laws polynomials
 laws = poly_laws whole_algebra whole_laws
 
+-- a product of polynomials over the whole numbers is zero only where a factor is
 abbrev pub domain : DomainLaws polynomials
 domain = poly_domain whole_algebra whole_laws whole_domain
 
+-- the operations on polynomials over the whole numbers alone
 abbrev pub P : Ops (Passing polynomials)
 P = within polynomials laws.closed
 
+-- u*x + v with u from 1 on can be taken out of polynomials
 pub linear_is_factor : (u : ℕ) (v : ℤ) → 1 ≤ u → IsFactor polynomials laws domain (linear (pos u) v)
 linear_is_factor zero v h = absurd (omega arith)
 linear_is_factor (suc u) v h = (refl, λ e. cc)
 
+-- each form in a list of linear factors can be taken out of polynomials
 pub forms_are_factors : (f : Meaning) (xs : List Entry) → AllByRecursion (IsLinearFactor f) xs
     → AllByRecursion (IsFactor polynomials laws domain) (forms xs)
 forms_are_factors f [] h = tt
 forms_are_factors f (x ∷ xs) h = (linear_is_factor x.0.0 x.0.1 h.0.form.from_one, forms_are_factors f xs h.1)
 
+-- a power of u*x + v is that power in the ring of polynomials
 pub form_power_is : (u : ℕ) (v : ℤ) (e : ℕ) → form_power u v e ≡ raised_to polynomials.ops (linear (pos u) v) e
 form_power_is u v zero = refl
 form_power_is u v (suc e) = ap (λ s. polynomials.ops.product s (linear (pos u) v)) (form_power_is u v e)
@@ -113,5 +119,6 @@ same_forms (x ∷ xs) (y ∷ ys) h k f g =
 included : (f : Meaning) (xs ys : List Entry) → AreLinearFactors f xs → AreLinearFactors f ys → Includes ys xs
 included f xs ys h k u v m = let b = factor_of f xs u v h.each m in k.all u v b.0 b.1
 
+-- two lists of all the linear factors of f have the same forms in the same order
 pub one_factors : (f : Meaning) (xs ys : List Entry) → AreLinearFactors f xs → AreLinearFactors f ys → forms xs ≡ forms ys
 one_factors f xs ys h k = same_forms xs ys h.rising k.rising (included f xs ys h k) (included f ys xs k h)

@@ -23,9 +23,11 @@ use Rattle.reducing.specs.Laws.FactorLists.{laws, domain, P, forms_are_factors, 
 abbrev IsMultiple : Row → Row → Type 0
 IsMultiple old new = Multiple polynomials laws domain old new
 
+-- a number that isn't 0 isn't zero as a polynomial
 pub whole_not_zero : (c : ℕ) → ¬ (c ≡ 0) → ¬ (P.whole (pos c) ≡ P.nought)
 whole_not_zero c m e = m (omega (arith, ints, domain.whole_nought (pos c) (ap (λ (v : Passing polynomials). v.0) e)))
 
+-- a row is its content times its quotients by it
 pub content_multiple : (old quotients : Row) → WithoutContent old quotients → IsMultiple old quotients
 content_multiple old quotients h = record {
   factor = P.whole (pos h.content);
@@ -33,18 +35,21 @@ content_multiple old quotients h = record {
   is = scaled_is polynomials laws domain (P.whole (pos h.content)) old quotients h.times;
 }
 
+-- a row is something that isn't zero times its reduced row
 pub multiple : (old new : Row) → Reduced old new → IsMultiple old new
 multiple old new (stays h) = same_multiple polynomials laws domain old
 multiple old new (divides quotients factors w f t) =
     multiple_twice polynomials laws domain old quotients new (content_multiple old quotients w)
     (all_taken_out_multiple polynomials laws domain (forms factors) (forms_are_factors _ factors f.factors.each) quotients new t)
 
+-- the same, of rows of polynomials that are given as meanings
 pub polynomials_reduce : (old new : List Meaning) → PolynomialsReduced old new → Reduces polynomials old new
 polynomials_reduce old new h =
     subst (λ r. Reduces polynomials r new) (sym h.row_is)
     (subst (λ r. Reduces polynomials (meant h.row) r) (sym h.result_is)
     (multiple_reduces polynomials laws domain h.row h.result (multiple h.row h.result h.holds)))
 
+-- a row has one row of quotients by its content
 pub one_quotients : (old quotients others : Row) → WithoutContent old quotients → WithoutContent old others → quotients ≡ others
 one_quotients old quotients others h k =
     cancel_row polynomials laws domain (P.whole (pos h.content)) (whole_not_zero h.content h.not_zero) quotients others
@@ -63,6 +68,7 @@ one_forms row xs ys h k =
     one_factors (entry_at polynomials.ops (meant row) h.place) xs ys h.factors
     (subst (λ p. AreLinearFactors (entry_at polynomials.ops (meant row) p) ys) (one_least (meant row) k.place h.place k.least h.least) k.factors)
 
+-- a row has one reduced row
 pub one_reduced : (old new other : Row) → Reduced old new → Reduced old other → new ≡ other
 one_reduced old new other (stays h) (stays k) = refl
 one_reduced old new other (stays h) (divides q xs w f t) =
@@ -75,6 +81,7 @@ one_reduced old new other (divides q xs w f t) (divides r ys x g s) =
     one_all_taken_out polynomials laws domain (forms xs) (forms_are_factors _ xs f.factors.each) q new other t
     (subst (λ z. AllTakenOut polynomials z q other) same (subst (λ z. AllTakenOut polynomials (forms ys) z other) e s))
 
+-- the same, of rows of polynomials that are given as meanings
 pub one_row : (old new other : List Meaning) → PolynomialsReduced old new → PolynomialsReduced old other → new ≡ other
 one_row old new other h k =
     let same : k.row ≡ h.row = meanings_same polynomials laws.closed k.row h.row (sym k.row_is ∙ h.row_is) in

@@ -42,6 +42,7 @@ cancel_all c (p ∷ ps) (q ∷ qs) e = cc (cancel c p q (first e), cancel_all c 
     rest : {x y : ℤ} {xs ys : List ℤ} → x ∷ xs ≡ y ∷ ys → xs ≡ ys
     rest e = cc
 
+-- a row of whole numbers has one reduced row
 pub one_whole_row : (old new other : List Meaning) → WholeReduced old new → WholeReduced old other → new ≡ other
 one_whole_row old new other h k =
     h.quotients_are ∙ ap (map number) (by_content h.content refl) ∙ sym k.quotients_are

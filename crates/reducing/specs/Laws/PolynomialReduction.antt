@@ -37,6 +37,7 @@ trimmed_items f = sym (ap (is_trimmed whole_algebra.ops) (meanings-coefficients 
     ∙ meanings-is_trimmed whole_algebra whole_laws.closed (coefficients whole_algebra whole_laws.closed f)
     ∙ coefficients_trimmed whole_algebra whole_laws.closed f
 
+-- the coefficients of -f are those of f with the other sign
 pub items_negative : (f : Passing polynomials) → items (polynomials.ops.neg f.0) ≡ negatives (items f.0)
 items_negative f = parted-joined (trimmed whole_algebra.ops (negatives (items f.0)))
     ∙ trimmed_already whole_algebra.ops (negatives (items f.0)) (negatives_trimmed (items f.0) ∙ trimmed_items f)
@@ -47,12 +48,14 @@ coefficient_negative [] k = refl
 coefficient_negative (x ∷ xs) zero = refl
 coefficient_negative (x ∷ xs) (suc k) = coefficient_negative xs k
 
+-- the leading number of -f is that of f with the other sign
 pub lead_negative : (f : Passing polynomials) → lead_number (polynomials.ops.neg f.0) ≡ neg_ℤ (lead_number f.0)
 lead_negative f =
     ap (λ xs. number_of (coefficient_at whole_algebra.ops xs (length xs - 1))) (items_negative f)
     ∙ ap (λ n. number_of (coefficient_at whole_algebra.ops (negatives (items f.0)) (n - 1))) (length-map (items f.0) whole_algebra.ops.neg)
     ∙ coefficient_negative (items f.0) (degree f.0)
 
+-- the leading number of zero isn't positive
 pub lead_of_zero : (f : Meaning) → f ≡ polynomials.ops.nought → ¬ (pos 0 <ℤ lead_number f)
 lead_of_zero f e h = omega (arith, ints, h, ap lead_number e)
 
@@ -119,5 +122,6 @@ one_split x plain core other rest h k = (plains, cores)
         ∙ ap (λ t. polynomials.ops.product other t) (sym cores) ∙ ap (λ t. polynomials.ops.product t core) k.plain_is)))
         ∙ sym k.plain_is
 
+-- a row of polynomials is a multiple of its one reduced row, and an entry splits in one way
 pub polynomial_reduction_laws : ReductionLaws polynomials polynomial_reduction
 polynomial_reduction_laws = record { reduces = polynomials_reduce; one_row = one_row; splits = polynomial_splits; one_split = one_split }

@@ -11,9 +11,11 @@ use Rattle.kernel_laws.specs.Rows.{entry_at}
 use Rattle.kernel_laws.specs.Reduction.{Reduces, bare}
 use Rattle.reducing.specs.WholeRows.{WholeReduced}
 
+-- each number times c
 abbrev pub scaled : ℕ → List ℤ → List ℤ
 scaled c qs = map (λ q. pos c *ℤ q) qs
 
+-- a whole number as a member of the ring
 abbrev pub belonging : ℤ → Passing whole_algebra
 belonging q = (number q, refl)
 
@@ -36,6 +38,7 @@ once_at [] k = refl
 once_at (q ∷ qs) zero = ap number (ring_z (q ∷ []) (search reading_z depth 40 fits 20000) refl)
 once_at (q ∷ qs) (suc k) = once_at qs k
 
+-- a positive number isn't 0
 pub positive_isnt : (n : ℕ) → ¬ (number (pos (suc n)) ≡ number (pos 0))
 positive_isnt n e = cc
 
@@ -51,6 +54,7 @@ same_size old new h =
       length-map h.numbers number,
     )
 
+-- a row of whole numbers is something that isn't zero times its reduced row
 pub whole_reduces : (old new : List Meaning) → WholeReduced old new → Reduces whole_algebra old new
 whole_reduces old new h = by_content h.content refl
   where

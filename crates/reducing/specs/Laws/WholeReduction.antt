@@ -27,6 +27,7 @@ one_whole_split : (x plain core other rest : Meaning) → WholeSplit x plain cor
 one_whole_split x plain core other rest h k =
     (h.plain_is ∙ sym h.value_is ∙ k.value_is ∙ sym k.plain_is, h.core_is ∙ sym k.core_is)
 
+-- a row of whole numbers is a multiple of its one reduced row, and a number splits in one way
 pub whole_reduction_laws : ReductionLaws whole_algebra whole_reduction
 whole_reduction_laws = record {
   reduces = whole_reduces;
