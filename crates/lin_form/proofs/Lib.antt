@@ -3,3 +3,4 @@ pub mod Lookups
 pub mod ListProducts
 pub mod Items
 pub mod SortedLists
+pub mod Iteration

@@ -1,6 +1,6 @@
 -- A product of forms, factor by factor: what is reached after some of them, and where a step is in bounds.
-use Rattle.std.specs.Prelude.{◌≡◌, ℕ, zero, suc, ◌+◌, ◌<◌, IsTrue, List, [], ◌∷◌, drop, length, slice_get, Option, Some, Result, Ok, Err, IfErr, ◌≤◌, refl}
-use Rattle.std.proofs.Common.{ap, sym, ◌∙◌, subst, arith, add-one, IsErrAnd}
+use Rattle.std.specs.Prelude.{◌≡◌, ℕ, zero, suc, IsTrue, List, [], ◌∷◌, drop, length, slice_get, Some, Result, Ok, Err, IfErr, ◌≤◌, refl}
+use Rattle.std.proofs.Common.{ap, sym, ◌∙◌, subst, arith, IsErrAnd}
 use Rattle.ring_laws.specs.Meaning.{Meaning}
 use Rattle.ring_laws.specs.Algebra.{Passing}
 use Rattle.ring_laws.specs.Answer.{OnFault, fault_weaker}
@@ -10,22 +10,21 @@ use Rattle.poly_laws.specs.Powers.{power_in, nonzero_magnitude, IsBound}
 use Rattle.poly_laws.proofs.PowerBounds.{bounded_product, bounded_self, part_fits}
 use Rattle.poly_laws.proofs.Powers.{product_unit}
 use Rattle.poly_laws.proofs.Squaring.{power_first, magnitude_first}
-use Rattle.poly_generic.specs.PowerAnswer.{GivesTimes}
 use Rattle.hypergeometric.specs.LinearForm.{Factor, FactorList}
 use Rattle.hypergeometric.specs.Products.{form_polynomial, forms_polynomial, list_polynomial, forms_counterpart, ListInBounds}
 use Rattle.hypergeometric.proofs.FormPolynomials.{laws, o, first, more_than_one, form_in, factor_in, forms_in, forms_first, bound_in, bound_first, counterpart_in, counterpart_first, factor_bounded, counterpart_bounded}
 
--- m times the forms from an index on is the whole product, and a bound of m times their counterpart is the whole counterpart
-pub record ListReached (l : FactorList) (m : Meaning) (index : ℕ) : Type 0 where
+-- m times the forms that are left is the whole product, and a bound of m times their counterpart is the whole counterpart
+pub record ListReached (l : FactorList) (m : Meaning) (left : List Factor) : Type 0 where
   pub passes : IsTrue ((level 2).passes m)
-  pub product : (level 2).ops.product m (forms_polynomial (drop index l.factors)) ≡ list_polynomial l
+  pub product : (level 2).ops.product m (forms_polynomial left) ≡ list_polynomial l
   pub bound : Passing (level 2)
   pub bounds : IsBound (level 2) bound m
-  pub counterpart : (level 2).ops.product bound.0 (forms_counterpart (drop index l.factors))
+  pub counterpart : (level 2).ops.product bound.0 (forms_counterpart left)
       ≡ (level 2).ops.product (nonzero_magnitude (level 2).ops ((level 2).ops.whole l.scale)) (forms_counterpart l.factors)
 
-pub list_start : (l : FactorList) (m : Meaning) → m ≡ (level 2).ops.whole l.scale → ListReached l m 0
-list_start l m e = subst (λ t. ListReached l t 0) (sym e) (record {
+pub list_start : (l : FactorList) (m : Meaning) → m ≡ (level 2).ops.whole l.scale → ListReached l m l.factors
+list_start l m e = subst (λ t. ListReached l t l.factors) (sym e) (record {
   passes = laws.closed.whole l.scale;
   product = refl;
   bound = nonzero_magnitude o (o.whole l.scale);
@@ -39,38 +38,30 @@ from_index [] i x e = cc
 from_index (y ∷ ys) zero x e = cc
 from_index (y ∷ ys) (suc i) x e = from_index ys i x e
 
-pub item_there : {A : Type 0} (xs : List A) (i : ℕ) → i < length xs → (x : A) × (slice_get xs i ≡ Some x)
-item_there [] i h = absurd (omega arith)
-item_there (y ∷ ys) zero h = (y, refl)
-item_there (y ∷ ys) (suc i) h = item_there ys i (omega arith)
-
-module _ (l : FactorList) (m : Meaning) (i : ℕ) (x : Factor) (here : slice_get l.factors i ≡ Some x) (r : ListReached l m i) where
-  abbrev rest : List Factor
-  rest = drop (suc i) l.factors
-
+module _ (l : FactorList) (m : Meaning) (left : List Factor) (x : Factor) (rest : List Factor) (here : left ≡ x ∷ rest) (r : ListReached l m left) where
   abbrev now : Passing (level 2)
   now = (m, r.passes)
 
   -- one more factor
-  pub list_step : (m' : Meaning) → m' ≡ (level 2).ops.product m (power_in (level 2).ops (form_polynomial x.form) x.power) → ListReached l m' (i + 1)
+  pub list_step : (m' : Meaning) → m' ≡ (level 2).ops.product m (power_in (level 2).ops (form_polynomial x.form) x.power) → ListReached l m' rest
   list_step m' e =
       let f : (o.product now (factor_in x)).0 ≡ m' = ap ((level 2).ops.product m) (power_first (level 2) laws (form_in x.form) x.power) ∙ sym e in
-      subst (λ t. ListReached l t (i + 1)) f (subst (λ j. ListReached l (o.product now (factor_in x)).0 j) (sym (add-one i)) (record {
+      subst (λ t. ListReached l t rest) f (record {
         passes = (o.product now (factor_in x)).1;
         product =
             ap ((level 2).ops.product (o.product now (factor_in x)).0) (sym (forms_first rest))
             ∙ first (o.product (o.product now (factor_in x)) (forms_in rest)) (o.product now (forms_in (x ∷ rest)))
             (laws.ring.product_assoc now (factor_in x) (forms_in rest))
-            ∙ ap ((level 2).ops.product m) (forms_first (x ∷ rest) ∙ sym (ap forms_polynomial (from_index l.factors i x here))) ∙ r.product;
+            ∙ ap ((level 2).ops.product m) (forms_first (x ∷ rest) ∙ sym (ap forms_polynomial here)) ∙ r.product;
         bound = o.product r.bound (bound_in x);
         bounds = bounded_product (level 2) laws more_than_one r.bound now (bound_in x) (factor_in x) r.bounds (factor_bounded x);
         counterpart =
             ap ((level 2).ops.product (o.product r.bound (bound_in x)).0) (sym (counterpart_first rest))
             ∙ first (o.product (o.product r.bound (bound_in x)) (counterpart_in rest)) (o.product r.bound (counterpart_in (x ∷ rest)))
             (laws.ring.product_assoc r.bound (bound_in x) (counterpart_in rest))
-            ∙ ap ((level 2).ops.product r.bound.0) (counterpart_first (x ∷ rest) ∙ sym (ap forms_counterpart (from_index l.factors i x here)))
+            ∙ ap ((level 2).ops.product r.bound.0) (counterpart_first (x ∷ rest) ∙ sym (ap forms_counterpart here))
             ∙ r.counterpart;
-      }))
+      })
 
   -- a factor that is refused shows that the whole is out of bounds
   pub list_fault : (fault : RingFault) → OnFault ((b : Passing (level 2)) → IsBound (level 2) b m → ¬ (level 2).ops.Fits ((level 2).ops.product b.0
@@ -79,7 +70,7 @@ module _ (l : FactorList) (m : Meaning) (i : ℕ) (x : Factor) (here : slice_get
       fault_weaker fault
       (λ out fits.
       let whole : (level 2).ops.Fits (o.product r.bound (counterpart_in (x ∷ rest))).0 = subst (level 2).ops.Fits (sym (ap ((level 2).ops.product r.bound.0)
-      (counterpart_first (x ∷ rest) ∙ sym (ap forms_counterpart (from_index l.factors i x here))) ∙ r.counterpart)) fits in
+      (counterpart_first (x ∷ rest) ∙ sym (ap forms_counterpart here)) ∙ r.counterpart)) fits in
       let parted : o.Fits (o.product (o.product r.bound (bound_in x)) (counterpart_in rest)) =
       subst o.Fits (sym (laws.ring.product_assoc r.bound (bound_in x) (counterpart_in rest))) whole in
       out r.bound r.bounds (subst (λ t. (level 2).ops.Fits ((level 2).ops.product r.bound.0 t)) (bound_first x)
@@ -88,23 +79,10 @@ module _ (l : FactorList) (m : Meaning) (i : ℕ) (x : Factor) (here : slice_get
       h
 
 -- past the last factor, the whole is reached
-pub list_end : (l : FactorList) (m : Meaning) (i : ℕ) → drop i l.factors ≡ [] → ListReached l m i → m ≡ list_polynomial l
-list_end l m i e r =
+pub list_end : (l : FactorList) (m : Meaning) (left : List Factor) → left ≡ [] → ListReached l m left → m ≡ list_polynomial l
+list_end l m left e r =
     sym (first (o.product (m, r.passes) o.unit) (m, r.passes) (product_unit o laws.ring (m, r.passes)))
     ∙ ap ((level 2).ops.product m) (sym (ap forms_polynomial e)) ∙ r.product
-
--- what `times_power` answers of the form at an index
-pub item_times : {T : Type 0} (r : Result T RingFault) (meaning : T → Meaning) (m b : Meaning) (found : Option Factor) (x y : Factor)
-    → found ≡ Some y → b ≡ form_polynomial y.form
-    → GivesTimes meaning (level 2) m (power_in (level 2).ops b y.power) (power_in (level 2).ops (nonzero_magnitude (level 2).ops b) y.power) r
-    → found ≡ Some x
-    → GivesTimes meaning (level 2) m (power_in (level 2).ops (form_polynomial x.form) x.power)
-    (power_in (level 2).ops (nonzero_magnitude (level 2).ops (form_polynomial x.form)) x.power) r
-item_times r meaning m b found x y p e h q =
-    let same : y ≡ x = cc in
-    subst (λ t. GivesTimes meaning (level 2) m (power_in (level 2).ops (form_polynomial t.form) t.power)
-    (power_in (level 2).ops (nonzero_magnitude (level 2).ops (form_polynomial t.form)) t.power) r) same
-    (subst (λ t. GivesTimes meaning (level 2) m (power_in (level 2).ops t y.power) (power_in (level 2).ops (nonzero_magnitude (level 2).ops t) y.power) r) e h)
 
 -- nothing is left past the end
 pub all_dropped : {A : Type 0} (xs : List A) (i : ℕ) → length xs ≤ i → drop i xs ≡ []

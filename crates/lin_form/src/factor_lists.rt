@@ -1,10 +1,16 @@
 //! Products of forms with their powers.
 
+ghost use Rattle.poly_laws.specs.Values.{level};
+ghost use Rattle.poly_laws.specs.Powers.{power_in, nonzero_magnitude};
+ghost use Rattle.poly_generic.specs.PowerAnswer.{GivesTimes};
 ghost use Rattle.hypergeometric.specs.FormOrder.{AreFactors};
+ghost use Rattle.hypergeometric.specs.Products.{form_polynomial};
+ghost use Rattle.lin_form.specs.Forms.{form_of};
 ghost use Rattle.lin_form.specs.FactorLists.{factors_of};
 ghost use Rattle.hypergeometric.specs.OneProof.{factors_once};
 
 use crate::forms::LinForm;
+use crate::iter::Iter;
 use crate::products::polynomial_of;
 use indexmap::IndexMap;
 use poly_generic::{Znk, times_power};
@@ -22,21 +28,17 @@ pub struct FactorList {
 }
 
 impl FactorList {
-    ghost use Rattle.std.specs.Prelude.{◌≡◌, ℕ, ◌+◌, ◌*◌, ◌≤◌, ◌<◌, ◌^◌, ℤ, pos, ◌*ℤ◌, unsigned_abs, [], length, slice_get, drop, IfOk, IfErr, OnOk, OnErr, MatchOption, MatchResult, Some, None};
+    ghost use Rattle.std.specs.Prelude.{◌≡◌, ◌+◌, ◌*◌, ◌≤◌, ◌<◌, ◌^◌, pos, ◌*ℤ◌, unsigned_abs, [], length, slice_get, IfOk, IfErr, OnOk, OnErr, MatchOption, Some, None};
     ghost use Rattle.std.specs.List.Sorted.{IsPermutation};
     ghost use Rattle.ring_laws.specs.Answer.{OnFault};
     ghost use Rattle.ring_laws.specs.declared.faults.RingFault.TheVariants.{TooLarge, Memory};
-    ghost use Rattle.poly_laws.specs.Values.{level};
     ghost use Rattle.hypergeometric.specs.Point.{Point};
-    ghost use Rattle.hypergeometric.specs.LinearForm.{Factor, forms_value, factor_list_value};
+    ghost use Rattle.hypergeometric.specs.LinearForm.{factor_list_value};
     ghost use Rattle.hypergeometric.specs.FormOrder.{AreFactors, IsSorted};
     ghost use Rattle.hypergeometric.specs.ProperTerm.{poly_value};
-    ghost use Rattle.lin_form.specs.Forms.{form_of};
     ghost use Rattle.hypergeometric.specs.FactorLists.{factor_with, power_of, with_factor};
     ghost use Rattle.lin_form.specs.ListOf.{list_of};
-    ghost use Rattle.poly_laws.specs.Powers.{power_in, nonzero_magnitude};
-    ghost use Rattle.poly_generic.specs.PowerAnswer.{GivesTimes};
-    ghost use Rattle.hypergeometric.specs.Products.{form_polynomial, list_polynomial, ListInBounds};
+    ghost use Rattle.hypergeometric.specs.Products.{list_polynomial, ListInBounds};
 
     /// The list of scale 1 and no form. It takes memory only later.
     pub fn new(alloc: Global) -> Result<FactorList, RingFault>
@@ -72,6 +74,17 @@ impl FactorList {
     {
         let (form, power) = self.powers.get_index(index)?;
         Some((*form, *power))
+    }
+
+    /// The forms with their powers, in order.
+    pub fn iter(&self) -> Iter<'_>
+        ensures items { result ≡ (list_of self.now).factors }
+        ensures short { length (list_of self.now).factors < 2 ^ 64 }
+        ensures factors { AreFactors (list_of self.now).factors }
+    {
+        Iter {
+            entries: self.powers.iter(),
+        }
     }
 
     /// The power of the form, and 0 for a form that isn't there.
@@ -145,25 +158,19 @@ impl FactorList {
         ensures too_large { IfErr result (OnFault (¬ ListInBounds (list_of self.now))) }
     {
         let mut product = Znk::whole(alloc, self.scale)?;
-        for index in 0..self.len() {
-            product = self.times_item(alloc, product, index)?;
+        for (form, power) in self.iter() {
+            product = times_form(alloc, product, form, power)?;
         }
         Ok(product)
     }
+}
 
-    // The product times the form at an index, as often as its power says.
-    fn times_item(&self, alloc: Global, product: Znk, index: usize) -> Result<Znk, RingFault>
-        requires in_range { index < length (list_of self.now).factors }
-        ensures gives { (x : Factor) → slice_get (list_of self.now).factors index ≡ Some x → GivesTimes ⟦<Znk as Ring>⟧.meaning (level 2)
-            (⟦<Znk as Ring>⟧.meaning product) (power_in (level 2).ops (form_polynomial x.form) x.power)
-            (power_in (level 2).ops (nonzero_magnitude (level 2).ops (form_polynomial x.form)) x.power) result }
-    {
-        match self.item(index) {
-            Some((form, power)) => {
-                let base = polynomial_of(alloc, form)?;
-                times_power(alloc, product, base, power)
-            }
-            None => Ok(product),
-        }
-    }
+// The product times the form, as often as the power says.
+fn times_form(alloc: Global, product: Znk, form: LinForm, power: u32) -> Result<Znk, RingFault>
+    ensures gives { GivesTimes ⟦<Znk as Ring>⟧.meaning (level 2) (⟦<Znk as Ring>⟧.meaning product)
+        (power_in (level 2).ops (form_polynomial (form_of form)) power)
+        (power_in (level 2).ops (nonzero_magnitude (level 2).ops (form_polynomial (form_of form))) power) result }
+{
+    let base = polynomial_of(alloc, form)?;
+    times_power(alloc, product, base, power)
 }

@@ -119,8 +119,9 @@ fn a_list_is_sorted(rt: HostRuntime) -> Result<(), Fail> {
     }
     let sorted = list.sorted()?;
     assert_eq!(rt; sorted.scale().value(), 3);
-    for (index, offset) in [(0, Some(0)), (1, Some(1)), (2, None)] {
-        let item = sorted.item(index);
+    let mut items = sorted.iter();
+    for offset in [Some(0), Some(1), None] {
+        let item = items.next();
         assert_eq!(rt; item.map(|item| item.0.offset()), offset);
     }
     Ok(())

@@ -1,4 +1,4 @@
--- Walks of a list of factors by index.
+-- Walks of a list of factors, item by item.
 use Rattle.std.proofs.Common.{◌≡◌, ◌≢◌, ℕ, ◌+◌, ◌↔◌, refl, ap, sym, ◌∙◌, subst, add-one, List, [], ◌∷◌, Some, Bool, true, false, drop, slice_get}
 use Rattle.std.specs.Prelude.{if◌then◌else◌, ℤ, pos, ◌≤ℤ◌}
 use Rattle.std.specs.List.{AllByRecursion}
@@ -15,29 +15,29 @@ pub item_first : {A : Type 0} (xs : List A) (i : ℕ) (x : A) → slice_get xs i
 item_first xs i x e = from_index xs i x e ∙ ap (λ j. x ∷ drop j xs) (sym (add-one i))
 
 -- an item with the slope is the first one
-pub first_here : (slope : ℤ) (xs : List Factor) (i : ℕ) (x : Factor) → slice_get xs i ≡ Some x → x.form.k_slope ≡ slope
-    → first_with_slope slope (drop i xs) ≡ Some x.form
-first_here slope xs i x e same =
-    ap (first_with_slope slope) (item_first xs i x e)
-    ∙ ap (λ b. if b then Some x.form else first_with_slope slope (drop (i + 1) xs)) ((Decides-int_eq x.form.k_slope slope).1 same)
+pub first_here : (slope : ℤ) (left : List Factor) (x : Factor) (rest : List Factor) → left ≡ x ∷ rest → x.form.k_slope ≡ slope
+    → first_with_slope slope left ≡ Some x.form
+first_here slope left x rest e same =
+    ap (first_with_slope slope) e
+    ∙ ap (λ b. if b then Some x.form else first_with_slope slope rest) ((Decides-int_eq x.form.k_slope slope).1 same)
 
 -- an item with another slope is passed
-pub first_later : (slope : ℤ) (xs : List Factor) (i : ℕ) (x : Factor) → slice_get xs i ≡ Some x → x.form.k_slope ≢ slope
-    → first_with_slope slope (drop (i + 1) xs) ≡ first_with_slope slope (drop i xs)
-first_later slope xs i x e other =
-    sym (ap (first_with_slope slope) (item_first xs i x e)
-    ∙ ap (λ b. if b then Some x.form else first_with_slope slope (drop (i + 1) xs)) (not_same (int_eq x.form.k_slope slope) refl))
+pub first_later : (slope : ℤ) (left : List Factor) (x : Factor) (rest : List Factor) → left ≡ x ∷ rest → x.form.k_slope ≢ slope
+    → first_with_slope slope rest ≡ first_with_slope slope left
+first_later slope left x rest e other =
+    sym (ap (first_with_slope slope) e
+    ∙ ap (λ b. if b then Some x.form else first_with_slope slope rest) (not_same (int_eq x.form.k_slope slope) refl))
   where
     not_same : (b : Bool) → int_eq x.form.k_slope slope ≡ b → int_eq x.form.k_slope slope ≡ false
     not_same true h = absurd (other ((Decides-int_eq x.form.k_slope slope).0 h))
     not_same false h = h
 
 -- a fact of each item
-pub all_from : {A : Type 0} (P : A → Type 0) (xs : List A) (i : ℕ) (x : A) → slice_get xs i ≡ Some x
-    → (AllByRecursion P (drop i xs) ↔ AllByRecursion P xs) → P x → (AllByRecursion P (drop (i + 1) xs) ↔ AllByRecursion P xs)
-all_from P xs i x e h p = (
-  λ rest. h.0 (subst (AllByRecursion P) (sym (item_first xs i x e)) (p, rest)),
-  λ all. (subst (AllByRecursion P) (item_first xs i x e) (h.1 all)).1,
+pub all_from : {A : Type 0} (P : A → Type 0) (xs left : List A) (x : A) (rest : List A) → left ≡ x ∷ rest
+    → (AllByRecursion P left ↔ AllByRecursion P xs) → P x → (AllByRecursion P rest ↔ AllByRecursion P xs)
+all_from P xs left x rest e h p = (
+  λ others. h.0 (subst (AllByRecursion P) (sym e) (p, others)),
+  λ all. (subst (AllByRecursion P) e (h.1 all)).1,
 )
 
 -- no value is negative, and none is 0, as facts of each item

@@ -1,8 +1,7 @@
 -- The next argument, over lists that grow at their ends.
-use Rattle.std.proofs.Common.{◌≡◌, ℕ, ◌+◌, ◌<◌, ◌≤◌, max, min, ap, sym, ◌∙◌, arith, add-one, List, [], ◌∷◌, ◌++◌, length, map, take, get_or, slice_get, Option, Some, None}
+use Rattle.std.proofs.Common.{◌≡◌, ℕ, ◌+◌, ◌<◌, ◌≤◌, max, min, ap, sym, ◌∙◌, arith, add-one, List, [], ◌∷◌, ◌++◌, length, map, take, get_or, Option, Some, None}
 use Rattle.std.proofs.Math.Seq.{take-suc}
 use Rattle.std.proofs.lemmas.List.{map-append}
-use Rattle.std.proofs.lemmas.Option.{slice_get_within, get_or_from_slice_get}
 use Rattle.proper_term.specs.Cancelled.{Argument, counted, at_least, greatest}
 use Rattle.proper_term.specs.Cursors.{IsNext, IsNextOf}
 use Rattle.proper_term.proofs.CancelledFactorials.{counted_below, counted_above}
@@ -13,10 +12,6 @@ pub taken : {A B : Type 0} (f : A → B) (xs : List A) (i : ℕ) (x : A) → i <
 taken f xs i x below is =
     ap (λ j. map f (take j xs)) (add-one i) ∙ ap (map f) (take-suc xs i x below) ∙ map-append f (take i xs) (get_or xs i x ∷ [])
     ∙ ap (λ y. map f (take i xs) ++ f y ∷ []) (sym is)
-
-pub taken_item : {A B : Type 0} (f : A → B) (xs : List A) (i : ℕ) (x : A) → slice_get xs i ≡ Some x
-    → map f (take (i + 1) xs) ≡ map f (take i xs) ++ f x ∷ []
-taken_item f xs i x here = taken f xs i x (slice_get_within xs i x here) (sym (get_or_from_slice_get xs i x x here))
 
 pub map_ended : {A B : Type 0} (f : A → B) (xs : List A) (x : A) → map f (xs ++ x ∷ []) ≡ map f xs ++ f x ∷ []
 map_ended f xs x = map-append f xs (x ∷ [])

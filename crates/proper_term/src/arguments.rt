@@ -25,10 +25,7 @@ pub(crate) fn arguments(
     ensures memory { IfErr result (λ fault. fault ≡ Memory) }
 {
     let mut found = Vec::new(alloc);
-    for index in 0..list.len() {
-        let Some((form, power)) = list.item(index) else {
-            return Ok(found);
-        };
+    for (form, power) in list.iter() {
         let number = magnitude(point.whole_value_of(&form));
         found.push(Argument { number, power })?;
     }

@@ -79,10 +79,7 @@ fn is_divisor(form: &LinForm) -> bool
 fn are_divisors(list: &FactorList) -> bool
     ensures test { IsTrue result ↔ AllByRecursion (λ x. IsPrimitive x.form × IsNotConstant x.form) (list_of list.now).factors }
 {
-    for index in 0..list.len() {
-        let Some((form, _)) = list.item(index) else {
-            return true;
-        };
+    for (form, _) in list.iter() {
         if !is_divisor(&form) {
             return false;
         }

@@ -59,10 +59,7 @@ impl Point {
 pub(crate) fn none_negative(list: &FactorList, point: Point) -> bool
     ensures test { IsTrue result ↔ AllByRecursion (λ x. pos 0 ≤ℤ form_value x.form (point_of point)) (list_of list.now).factors }
 {
-    for index in 0..list.len() {
-        let Some((form, _)) = list.item(index) else {
-            return true;
-        };
+    for (form, _) in list.iter() {
         if point.value_of(&form) < 0 {
             return false;
         }
@@ -74,10 +71,7 @@ pub(crate) fn none_negative(list: &FactorList, point: Point) -> bool
 fn none_zero(list: &FactorList, point: Point) -> bool
     ensures test { IsTrue result ↔ AllByRecursion (λ x. form_value x.form (point_of point) ≢ pos 0) (list_of list.now).factors }
 {
-    for index in 0..list.len() {
-        let Some((form, _)) = list.item(index) else {
-            return true;
-        };
+    for (form, _) in list.iter() {
         if point.value_of(&form) == 0 {
             return false;
         }

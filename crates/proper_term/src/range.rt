@@ -39,10 +39,7 @@ fn first_with(list: &FactorList, slope: i64) -> Option<LinForm>
     ensures first { MatchOption result (first_with_slope slope (list_of list.now).factors ≡ None)
         (λ form. first_with_slope slope (list_of list.now).factors ≡ Some (form_of form)) }
 {
-    for index in 0..list.len() {
-        let Some((form, _)) = list.item(index) else {
-            return None;
-        };
+    for (form, _) in list.iter() {
         if form.k_slope() == slope {
             return Some(form);
         }

@@ -153,10 +153,7 @@ pub(crate) fn over_forms(
     ensures run { GivesRun fraction_of (number_fraction_of (fraction_of running)) (divisors (list_of over.now).factors (point_of point)) result }
 {
     let mut running = running;
-    for index in 0..over.len() {
-        let Some((form, power)) = over.item(index) else {
-            return Ok(running);
-        };
+    for (form, power) in over.iter() {
         let number = point.whole_value_of(&form);
         running = over_number(alloc, running, number, power)?;
     }

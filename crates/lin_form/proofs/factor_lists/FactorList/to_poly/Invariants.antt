@@ -5,7 +5,7 @@ use Rattle.lin_form.proofs.ListProducts.{ListReached}
 use Rattle.lin_form.proofs.factor_lists.FactorList.to_poly.Given as goal
 
 -- the product of the forms so far times those that are left is the whole
-abbrev pub invariant-loop-index : goal.invariant-loop-index
-invariant-loop-index l =
+abbrev pub invariant-loop-form : goal.invariant-loop-form
+invariant-loop-form l =
     ListReached (list_of l.self)
-    (listed (each_of l.product.list.items (λ coefficient. listed (each_of coefficient.list.items (λ whole. number whole.value))))) l.index
+    (listed (each_of l.product.list.items (λ coefficient. listed (each_of coefficient.list.items (λ whole. number whole.value))))) l.form-iterator
