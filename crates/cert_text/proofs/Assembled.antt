@@ -4,8 +4,9 @@ use Rattle.std.specs.Prelude.{ℤ, codes}
 use Rattle.std.specs.Fmt.{signed_decimal, digits}
 use Rattle.ring_laws.specs.Meaning.{Meaning}
 use Rattle.poly_laws.specs.Values.{level}
-use Rattle.document_text.specs.Spelling.{◌⧺◌, polynomial_text, polynomial_in_n_text}
-use Rattle.document_text.specs.Document.{document_text, line}
+use Rattle.exact_texts.specs.Texts.{◌⧺◌, line}
+use Rattle.document_text.specs.Spelling.{polynomial_text, polynomial_in_n_text}
+use Rattle.document_text.specs.Document.{document_text}
 use Rattle.cert_text.specs.PolynomialDocument.{in_k, polynomial_document}
 use Rattle.cert_text.proofs.PolynomialText.{number_text}
 

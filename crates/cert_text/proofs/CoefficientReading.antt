@@ -5,7 +5,7 @@ use Rattle.std.proofs.lemmas.Bool.{cases_lt}
 use Rattle.ring_laws.specs.declared.wholes.Whole.{Whole}
 use Rattle.document_text.specs.Spelling.{Monomial, later_text}
 use Rattle.hypergeometric.specs.TermFacts.{IsNumber}
-use Rattle.document_text.proofs.Cutting.{Stops}
+use Rattle.exact_texts.proofs.Cuts.{Stops}
 use Rattle.cert_text.specs.Printing.{monomial_in_k, placed_text}
 use Rattle.cert_text.specs.Reading.{unsigned, AreFalling, rest_text, value_in, coefficient_of}
 use Rattle.cert_text.proofs.CoefficientsAt.{none_from, coefficient_first, coefficient_other, value_set, value_kept, length_set}

@@ -6,8 +6,9 @@ use Rattle.ring_laws.specs.Meaning.{Meaning}
 use Rattle.hypergeometric.specs.TermFacts.{IsNumber, IsPolynomial}
 use Rattle.document_text.specs.Spelling.{polynomial_text}
 use Rattle.document_text.specs.Document.{document_text}
-use Rattle.document_text.proofs.Cutting.{Only, only_more}
-use Rattle.document_text.proofs.Numerals.{signed_bytes, only_signed_decimal}
+use Rattle.exact_texts.specs.Texts.{Only}
+use Rattle.exact_texts.proofs.Cuts.{only_more}
+use Rattle.exact_texts.proofs.Numerals.{signed_bytes, only_signed_decimal}
 use Rattle.document_text.proofs.MonomialBytes.{polynomial_bytes}
 use Rattle.document_text.proofs.Polynomials.{only_polynomial}
 use Rattle.cert_text.specs.PolynomialDocument.{in_k}

@@ -3,9 +3,10 @@ use Rattle.std.specs.Prelude.{◌≡◌, ℕ, zero, suc, ◌^◌, ◌<◌, Bool,
 use Rattle.std.specs.Fmt.{decimal}
 use Rattle.std.proofs.Common.{refl, sym, ◌∙◌, append-nil, inl, inr}
 use Rattle.std.proofs.lemmas.Bool.{eqb-true}
-use Rattle.document_text.specs.Spelling.{◌⧺◌, power_text, magnitude_text}
-use Rattle.document_text.proofs.Cutting.{Only, Stops, only_more}
-use Rattle.document_text.proofs.Numerals.{digit_bytes, only_decimal, decimal_not_empty}
+use Rattle.exact_texts.specs.Texts.{◌⧺◌, Only}
+use Rattle.document_text.specs.Spelling.{power_text, magnitude_text}
+use Rattle.exact_texts.proofs.Cuts.{Stops, only_more}
+use Rattle.exact_texts.proofs.Numerals.{digit_bytes, only_decimal, decimal_not_empty}
 use Rattle.cert_text.specs.Reading.{outside, IsMagnitudeText, IsStarOf}
 
 -- every byte but a star and a k

@@ -1,5 +1,5 @@
 -- A text is that of one document that is read, or else it has one first bad line.
-use Rattle.std.proofs.Common.{◌≡◌, ℕ, zero, suc, ◌+◌, ◌<◌, ◌≤◌, ◌⊎◌, Bool, true, false, List, [], ◌∷◌, length, refl, sym, ◌∙◌, inl, inr, arith}
+use Rattle.std.proofs.Common.{◌≡◌, ℕ, zero, suc, ◌+◌, ◌<◌, ◌≤◌, ◌⊎◌, Bool, true, false, List, [], ◌∷◌, length, refl, inl, inr, arith}
 use Rattle.std.specs.Prelude.{if◌then◌else◌, nat_eq}
 use Rattle.cert_text.specs.Readable.{Contents, IsTextOf, SameLines, BeginsDocument, IsFirstBadLine}
 use Rattle.cert_text.proofs.KnownReadable.{squares, squares_readable}

@@ -4,7 +4,7 @@ use Rattle.std.specs.List.{list_all}
 use Rattle.std.proofs.Common.{refl, ap, sym, subst, ◌∙◌}
 use Rattle.std.proofs.lemmas.Bool.{and_parts, not-true}
 use Rattle.std.proofs.lemmas.List.{append_cancel_left}
-use Rattle.document_text.proofs.Cutting.{other_than, Only}
+use Rattle.exact_texts.specs.Texts.{other_than, Only}
 use Rattle.cert_text.specs.Readable.{SameLines}
 use Rattle.cert_text.specs.Reading.{outside, IsField}
 

@@ -3,7 +3,8 @@ use Rattle.std.specs.Prelude.{◌≡◌, ◌≢◌, ℕ, suc, ◌<◌, Bool, tru
 use Rattle.std.proofs.Common.{refl, ap, sym, subst, ◌∙◌, append_assoc, arith, lit<}
 use Rattle.document_text.specs.Spelling.{Monomial, power_text, magnitude_text, unsigned_text, sign_text, later_text}
 use Rattle.hypergeometric.specs.TermFacts.{IsNumber}
-use Rattle.document_text.proofs.Cutting.{Only, Stops, only_more}
+use Rattle.exact_texts.specs.Texts.{Only}
+use Rattle.exact_texts.proofs.Cuts.{Stops, only_more}
 use Rattle.document_text.proofs.Powers.{unsigned_bytes}
 use Rattle.document_text.proofs.Monomials.{IsMonomial, only_unsigned, unsigned_not_empty}
 use Rattle.cert_text.specs.Printing.{monomial_in_k, placed_text}

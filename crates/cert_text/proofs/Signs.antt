@@ -5,8 +5,9 @@ use Rattle.std.specs.Fmt.{decimal, signed_decimal}
 use Rattle.std.proofs.Common.{refl, ap, sym, subst, ◌∙◌}
 use Rattle.std.proofs.lemmas.Bool.{and_parts}
 use Rattle.hypergeometric.specs.TermFacts.{IsNumber}
-use Rattle.document_text.proofs.Cutting.{Only, only_more}
-use Rattle.document_text.proofs.Numerals.{digit_bytes, only_decimal, decimal_not_empty}
+use Rattle.exact_texts.specs.Texts.{Only}
+use Rattle.exact_texts.proofs.Cuts.{only_more}
+use Rattle.exact_texts.proofs.Numerals.{digit_bytes, only_decimal, decimal_not_empty}
 use Rattle.cert_text.specs.Reading.{unsigned, Begins, IsSignOf, signed_number}
 
 -- a text of the class that isn't empty begins in it, whatever follows

@@ -5,7 +5,8 @@ use Rattle.std.specs.Fmt.{decimal}
 use Rattle.ring_laws.specs.declared.wholes.Whole.{Whole}
 use Rattle.hypergeometric.specs.TermFacts.{IsNumber}
 use Rattle.document_text.specs.Spelling.{Monomial, later_text}
-use Rattle.document_text.proofs.Cutting.{Only, Stops}
+use Rattle.exact_texts.specs.Texts.{Only}
+use Rattle.exact_texts.proofs.Cuts.{Stops}
 use Rattle.cert_text.specs.Printing.{monomial_in_k, placed_text}
 
 -- every byte but the stops

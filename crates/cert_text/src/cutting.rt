@@ -1,7 +1,8 @@
 //! Cuts a text at given bytes and behind given words.
 
 ghost use Rattle.std.specs.Prelude.{◌≡◌, ◌≤◌, ◌++◌, List, ℕ, length, take, drop};
-ghost use Rattle.document_text.proofs.Cutting.{Only, Stops};
+ghost use Rattle.exact_texts.proofs.Cuts.{Stops};
+ghost use Rattle.exact_texts.specs.Texts.{Only};
 ghost use Rattle.cert_text.specs.Reading.{outside, IsField};
 
 // The bytes in front of the first that is among the stops, and the bytes from there on.

@@ -4,7 +4,7 @@ ghost use Rattle.std.specs.Prelude.{◌≡◌, ◌<◌, ◌^◌, ◌++◌, ℕ, 
 ghost use Rattle.ring_laws.specs.Meaning.{Meaning};
 ghost use Rattle.document_text.specs.Spelling.{Monomial, power_text, magnitude_text, polynomial_text};
 ghost use Rattle.hypergeometric.specs.TermFacts.{IsNumber, IsPolynomial};
-ghost use Rattle.document_text.proofs.Cutting.{Stops};
+ghost use Rattle.exact_texts.proofs.Cuts.{Stops};
 ghost use Rattle.cert_text.specs.PolynomialDocument.{in_k};
 ghost use Rattle.cert_text.specs.Printing.{monomial_in_k, placed_text};
 ghost use Rattle.cert_text.specs.Reading.{unsigned, IsMagnitudeText, IsStarOf, AreFalling, rest_text, value_in, coefficient_of};

@@ -7,11 +7,12 @@ use Rattle.ring_laws.specs.Meaning.{Meaning}
 use Rattle.hypergeometric.specs.LinearForm.{LinearForm}
 use Rattle.hypergeometric.specs.TermFacts.{IsPolynomial}
 use Rattle.hypergeometric.specs.Match.{Match}
-use Rattle.document_text.specs.Spelling.{◌⧺◌, joined, polynomial_in_n_text}
-use Rattle.document_text.specs.TermText.{form_text, items_text}
+use Rattle.exact_texts.specs.Texts.{◌⧺◌, joined, items_text, Only}
+use Rattle.document_text.specs.Spelling.{polynomial_in_n_text}
+use Rattle.document_text.specs.TermText.{form_text}
 use Rattle.document_text.specs.Document.{match_text, range_text}
 use Rattle.document_text.specs.WellFormed.{IsMatch, IsRange}
-use Rattle.document_text.proofs.Cutting.{among, Only, only_append, only_more}
+use Rattle.exact_texts.proofs.Cuts.{among, only_append, only_more}
 use Rattle.document_text.proofs.MonomialBytes.{polynomial_bytes}
 use Rattle.document_text.proofs.Polynomials.{only_polynomial_in_n, polynomial_in_n_determines}
 use Rattle.document_text.proofs.Forms.{only_form, form_determines, form_before, form_before_no_minus, item_bytes, only_match, match_determines, match_no_minus}

@@ -2,9 +2,10 @@
 use Rattle.std.specs.Prelude.{◌≡◌, ℕ, codes, List, []}
 use Rattle.std.proofs.Common.{sym, ◌∙◌, append-nil, arith}
 use Rattle.std.proofs.lemmas.List.{append_cancel_left, append_cancel_right}
-use Rattle.document_text.specs.Spelling.{◌⧺◌, polynomial_text}
+use Rattle.exact_texts.specs.Texts.{◌⧺◌, line}
+use Rattle.document_text.specs.Spelling.{polynomial_text}
 use Rattle.document_text.specs.TermText.{factors_text, factor_list_text, proper_term_text}
-use Rattle.document_text.specs.Document.{Found, Document, line, range_text, found_text, document_text}
+use Rattle.document_text.specs.Document.{Found, Document, range_text, found_text, document_text}
 use Rattle.document_text.specs.WellFormed.{IsFound, IsWellFormed}
 use Rattle.document_text.proofs.ClaimParts.{matches_text, AreMultipliers, multipliers_text}
 use Rattle.document_text.proofs.Lines.{IsOrder, order_line, matches_line, list_line, multipliers_line, term_line, polynomial_line, factors_line, range_line}

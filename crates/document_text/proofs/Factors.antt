@@ -4,13 +4,13 @@ use Rattle.std.specs.List.{AllByRecursion}
 use Rattle.std.specs.Fmt.{signed_decimal}
 use Rattle.std.proofs.Common.{refl, ap}
 use Rattle.hypergeometric.specs.LinearForm.{FactorList}
-use Rattle.document_text.specs.Spelling.{◌⧺◌}
+use Rattle.exact_texts.specs.Texts.{◌⧺◌, Only}
 use Rattle.document_text.specs.TermText.{factor_text, factors_text, factor_list_text}
 use Rattle.hypergeometric.specs.FormOrder.{IsFactor}
 use Rattle.hypergeometric.specs.TermFacts.{IsNumber}
 use Rattle.document_text.specs.WellFormed.{IsFactorList}
-use Rattle.document_text.proofs.Cutting.{among, Only, only_append, only_more}
-use Rattle.document_text.proofs.Numerals.{signed_bytes, only_signed_decimal, signed_decimal_determines}
+use Rattle.exact_texts.proofs.Cuts.{among, only_append, only_more}
+use Rattle.exact_texts.proofs.Numerals.{signed_bytes, only_signed_decimal, signed_decimal_determines}
 use Rattle.document_text.proofs.Forms.{item_bytes, only_factor, factor_determines, factor_no_minus}
 use Rattle.document_text.proofs.Spells.{Spells, spells_more, spelled_behind}
 use Rattle.document_text.proofs.Items.{items_determine, only_items}

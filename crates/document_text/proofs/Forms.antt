@@ -7,12 +7,14 @@ use Rattle.std.proofs.lemmas.Int.{ints}
 use Rattle.hypergeometric.specs.LinearForm.{LinearForm, Factor}
 use Rattle.hypergeometric.specs.FormOrder.{IsForm, IsFactor}
 use Rattle.hypergeometric.specs.Match.{Match}
-use Rattle.document_text.specs.Spelling.{◌⧺◌, Monomial, monomial_before}
+use Rattle.exact_texts.specs.Texts.{◌⧺◌, Only}
+use Rattle.document_text.specs.Spelling.{Monomial, monomial_before}
 use Rattle.document_text.specs.TermText.{form_text, times_text, factor_text}
 use Rattle.document_text.specs.Document.{match_text}
 use Rattle.document_text.specs.WellFormed.{IsMatch}
-use Rattle.document_text.proofs.Cutting.{among, Only, Stops, only_append, only_more, cut}
-use Rattle.document_text.proofs.Numerals.{digit_bytes, only_decimal, decimal_before, times_bytes, only_times, times_determines, left_out_stops}
+use Rattle.exact_texts.proofs.Cuts.{among, Stops, only_append, only_more, cut}
+use Rattle.exact_texts.proofs.Numerals.{digit_bytes, only_decimal}
+use Rattle.document_text.proofs.Numerals.{decimal_before, times_bytes, only_times, times_determines, left_out_stops}
 use Rattle.document_text.proofs.MonomialBytes.{polynomial_bytes, only_monomials, monomials_no_minus}
 use Rattle.document_text.proofs.Totals.{share, total_at, total_before}
 use Rattle.document_text.proofs.Polynomials.{AreMonomials, none, before, same_totals}

@@ -2,42 +2,10 @@
 use Rattle.std.specs.Prelude.{◌≡◌, ◌≢◌, ℕ, Bool, false, codes, List, [], ◌∷◌, map}
 use Rattle.std.specs.List.{AllByRecursion}
 use Rattle.std.specs.Str.{byte}
-use Rattle.std.proofs.Common.{refl, sym, ◌∙◌, append-nil}
-use Rattle.std.proofs.lemmas.List.{append_cancel_left}
-use Rattle.document_text.specs.Spelling.{◌⧺◌, joined}
-use Rattle.document_text.specs.TermText.{items_text}
-use Rattle.document_text.proofs.Cutting.{Only, only_append, cut}
+use Rattle.std.proofs.Common.{refl, sym}
+use Rattle.exact_texts.specs.Texts.{joined, items_text, Only}
+use Rattle.exact_texts.proofs.Joined.{joined_determines, only_joined}
 use Rattle.document_text.proofs.Spells.{Spells}
-
--- Texts with a separator between them. It begins with a byte outside the class, so that each text ends where the separator begins.
-pub joined_determines : (class : ℕ → Bool) (c : ℕ) (separator : List ℕ) → class c ≡ false → (x y : List ℕ) (xs ys : List (List ℕ))
-    → AllByRecursion (Only class) (x ∷ xs) → AllByRecursion (Only class) (y ∷ ys)
-    → joined (c ∷ separator) (x ∷ xs) ≡ joined (c ∷ separator) (y ∷ ys) → x ∷ xs ≡ y ∷ ys
-joined_determines class c separator h x y [] [] p q e = λ i. e i ∷ []
-joined_determines class c separator h x y [] (w ∷ ys) p q e =
-    let parts = cut class x y [] ((c ∷ separator) ⧺ joined (c ∷ separator) (w ∷ ys)) p.0 q.0 tt h (append-nil x ∙ e) in
-    let no = parts.1 in
-    cc
-joined_determines class c separator h x y (v ∷ xs) [] p q e =
-    let parts = cut class x y ((c ∷ separator) ⧺ joined (c ∷ separator) (v ∷ xs)) [] p.0 q.0 h tt (e ∙ sym (append-nil y)) in
-    let no = parts.1 in
-    cc
-joined_determines class c separator h x y (v ∷ xs) (w ∷ ys) p q e =
-    let parts = cut class x y ((c ∷ separator) ⧺ joined (c ∷ separator) (v ∷ xs)) ((c ∷ separator) ⧺ joined (c ∷ separator) (w ∷ ys))
-    p.0 q.0 h h e in
-    let first = parts.0 in
-    let rest = joined_determines class c separator h v w xs ys p.1 q.1
-    (append_cancel_left (c ∷ separator) (joined (c ∷ separator) (v ∷ xs)) (joined (c ∷ separator) (w ∷ ys)) parts.1) in
-    λ i. first i ∷ rest i
-
--- of a class that has the bytes of the texts and of the separator
-pub only_joined : (class : ℕ → Bool) (separator : List ℕ) → Only class separator → (xs : List (List ℕ))
-    → AllByRecursion (Only class) xs → Only class (joined separator xs)
-only_joined class separator h [] p = refl
-only_joined class separator h (x ∷ []) p = p.0
-only_joined class separator h (x ∷ y ∷ xs) p =
-    only_append class x (separator ⧺ joined separator (y ∷ xs)) p.0
-    (only_append class separator (joined separator (y ∷ xs)) h (only_joined class separator h (y ∷ xs) p.1))
 
 -- Items of which each has a text that determines it.
 module _ {A : Type 0} {class : ℕ → Bool} {W : A → Type 0} {text : A → List ℕ} (s : Spells class W text) where

@@ -1,4 +1,3 @@
-pub mod Cutting
 pub mod Numerals
 pub mod Powers
 pub mod Monomials

@@ -5,12 +5,13 @@ use Rattle.std.specs.Fmt.{decimal}
 use Rattle.std.proofs.Common.{refl, ap, sym, ◌∙◌, append_assoc}
 use Rattle.hypergeometric.specs.FormOrder.{IsFactor}
 use Rattle.hypergeometric.specs.TermFacts.{IsProper, IsPolynomial}
+use Rattle.exact_texts.specs.Texts.{line}
 use Rattle.document_text.specs.Spelling.{polynomial_text}
 use Rattle.document_text.specs.TermText.{factors_text, factor_list_text, proper_term_text}
-use Rattle.document_text.specs.Document.{line, range_text}
+use Rattle.document_text.specs.Document.{range_text}
 use Rattle.document_text.specs.WellFormed.{IsFactorList, IsMatch, IsRange}
-use Rattle.document_text.proofs.Cutting.{among}
-use Rattle.document_text.proofs.Numerals.{digit_bytes, only_decimal, decimal_determines}
+use Rattle.exact_texts.proofs.Cuts.{among}
+use Rattle.exact_texts.proofs.Numerals.{digit_bytes, only_decimal, decimal_determines}
 use Rattle.document_text.proofs.MonomialBytes.{polynomial_bytes}
 use Rattle.document_text.proofs.Spells.{Spells, spells_more, spelled_behind}
 use Rattle.document_text.proofs.Factors.{field_bytes, list_bytes, factors_spell, factor_list_spells}

@@ -4,7 +4,8 @@ use Rattle.std.specs.List.{AllByRecursion}
 use Rattle.std.specs.Str.{byte}
 use Rattle.std.proofs.Common.{refl, ap, arith}
 use Rattle.document_text.specs.Spelling.{Monomial, unsigned_text, sign_text, first_text, later_text, monomials_text}
-use Rattle.document_text.proofs.Cutting.{among, Only, Stops, only_append, only_more, cut}
+use Rattle.exact_texts.proofs.Cuts.{among, Stops, only_append, only_more, cut}
+use Rattle.exact_texts.specs.Texts.{Only}
 use Rattle.document_text.proofs.Powers.{unsigned_bytes}
 use Rattle.document_text.proofs.Monomials.{IsMonomial, unsigned_not_empty, only_unsigned}
 use Rattle.document_text.proofs.MonomialLists.{laters_stop}

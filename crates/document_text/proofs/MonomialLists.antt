@@ -5,7 +5,8 @@ use Rattle.std.specs.Fmt.{digits}
 use Rattle.std.specs.Str.{byte}
 use Rattle.std.proofs.Common.{refl, ap, sym, subst, ◌∙◌, append_assoc, arith}
 use Rattle.document_text.specs.Spelling.{Monomial, unsigned_text, sign_text, first_text, later_text, monomials_text}
-use Rattle.document_text.proofs.Cutting.{among, Only, Stops, cut}
+use Rattle.exact_texts.proofs.Cuts.{among, Stops, cut}
+use Rattle.exact_texts.specs.Texts.{Only}
 use Rattle.document_text.proofs.Powers.{unsigned_bytes}
 use Rattle.document_text.proofs.Monomials.{IsMonomial, HasCoefficient, unsigned_determines, unsigned_not_empty, only_unsigned}
 

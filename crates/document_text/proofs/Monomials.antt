@@ -4,10 +4,12 @@ use Rattle.std.specs.Fmt.{decimal}
 use Rattle.std.specs.Str.{byte}
 use Rattle.std.proofs.Common.{refl, ap, sym, subst, ◌∙◌, append-nil}
 use Rattle.std.proofs.lemmas.Bool.{eqb-true}
-use Rattle.document_text.specs.Spelling.{◌⧺◌, Monomial, powers_text, magnitude_text, unsigned_text}
+use Rattle.exact_texts.specs.Texts.{◌⧺◌, Only}
+use Rattle.document_text.specs.Spelling.{Monomial, powers_text, magnitude_text, unsigned_text}
 use Rattle.hypergeometric.specs.TermFacts.{IsNumber}
-use Rattle.document_text.proofs.Cutting.{among, Only, Stops, only_append, only_more}
-use Rattle.document_text.proofs.Numerals.{digit_bytes, only_decimal, decimal_not_empty, decimal_determines, decimal_before, decimal_starts}
+use Rattle.exact_texts.proofs.Cuts.{among, Stops, only_append, only_more}
+use Rattle.exact_texts.proofs.Numerals.{digit_bytes, only_decimal, decimal_not_empty, decimal_determines}
+use Rattle.document_text.proofs.Numerals.{decimal_before, decimal_starts}
 use Rattle.document_text.proofs.Powers.{unsigned_bytes, only_powers, powers_stop, powers_determine}
 
 -- the numbers of the monomial are below 2^127 in magnitude

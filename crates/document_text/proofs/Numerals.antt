@@ -1,37 +1,17 @@
 -- The text of a number, of a fraction and of a power determines it.
-use Rattle.std.specs.Prelude.{◌≡◌, ◌≢◌, ℕ, suc, ◌+◌, ◌%◌, ◌^◌, ◌<◌, Bool, true, false, if◌then◌else◌, nat_eq, ◌⊎◌, ℤ, pos, negsuc, ◌<ℤ◌, unsigned_abs, codes, List, [], ◌∷◌, ◌++◌, length, drop}
-use Rattle.std.specs.List.{list_all}
+use Rattle.std.specs.Prelude.{◌≡◌, ◌≢◌, ℕ, ◌^◌, ◌<◌, Bool, true, false, if◌then◌else◌, nat_eq, ◌⊎◌, ℤ, pos, negsuc, ◌<ℤ◌, unsigned_abs, codes, List, [], ◌∷◌, ◌++◌, drop}
 use Rattle.std.specs.Fmt.{decimal, signed_decimal}
 use Rattle.std.specs.Str.{byte}
-use Rattle.std.specs.Str.Parse.{digits_value}
-use Rattle.std.proofs.Common.{refl, ap, sym, subst, ◌∙◌, inl, inr, ⊎_elim, arith}
-use Rattle.std.proofs.lemmas.Bool.{eqb-true, agree_below_at, false≢true}
+use Rattle.std.proofs.Common.{refl, ap, sym, ◌∙◌, inl, inr, ⊎_elim, arith}
+use Rattle.std.proofs.lemmas.Bool.{eqb-true}
 use Rattle.std.proofs.lemmas.Int.{ints}
-use Rattle.std.proofs.lemmas.Fmt.{decimal_is_IsNumeral_wide, decimal_by_steps_wide}
 use Rattle.hypergeometric.specs.Fraction.{Fraction}
-use Rattle.hypergeometric.specs.TermFacts.{IsNumber, IsLowest}
-use Rattle.document_text.specs.Spelling.{◌⧺◌, fraction_text}
+use Rattle.hypergeometric.specs.TermFacts.{IsLowest}
+use Rattle.exact_texts.specs.Texts.{◌⧺◌, Only}
+use Rattle.exact_texts.proofs.Numerals.{digit_bytes, only_decimal, decimal_not_empty, decimal_determines, signed_bytes, only_signed_decimal, signed_decimal_determines}
+use Rattle.document_text.specs.Spelling.{fraction_text}
 use Rattle.document_text.specs.TermText.{times_text}
-use Rattle.document_text.proofs.Cutting.{among, Only, Stops, only_append, only_more, cut}
-
-abbrev pub digit_bytes : List ℕ
-digit_bytes = codes "0123456789"
-
--- a digit is among the digits
-only_digit : (d : ℕ) → d < 10 → Only (among digit_bytes) ((48 + d) ∷ [])
-only_digit d h = agree_below_at (λ e. list_all (among digit_bytes) ((48 + e) ∷ [])) (λ e. true) 10 d refl h
-
--- a decimal has digits only, and at least one, and determines its number
-pub only_decimal : (n : ℕ) → n < 2 ^ 127 → Only (among digit_bytes) (decimal n)
-only_decimal n h = decimal_by_steps_wide (λ m ds. Only (among digit_bytes) ds) only_digit
-    (λ m ds l p. only_append (among digit_bytes) ds ((48 + m % 10) ∷ []) p (only_digit (m % 10) (omega arith))) n (omega arith)
-
-pub decimal_not_empty : (n : ℕ) → n < 2 ^ 127 → decimal n ≢ []
-decimal_not_empty n h e = omega (arith, (decimal_is_IsNumeral_wide n (omega arith)).0.0, ap length e)
-
-pub decimal_determines : (m n : ℕ) → m < 2 ^ 127 → n < 2 ^ 127 → decimal m ≡ decimal n → m ≡ n
-decimal_determines m n p q e =
-    sym (decimal_is_IsNumeral_wide m (omega arith)).1 ∙ ap (digits_value 10) e ∙ (decimal_is_IsNumeral_wide n (omega arith)).1
+use Rattle.exact_texts.proofs.Cuts.{among, Stops, only_append, only_more, cut}
 
 -- a decimal ends where what follows it begins with no digit
 pub decimal_before : (m n : ℕ) (r s : List ℕ) → m < 2 ^ 127 → n < 2 ^ 127 → Stops (among digit_bytes) r → Stops (among digit_bytes) s
@@ -43,27 +23,6 @@ decimal_before m n r s p q u v e =
 -- what begins with a decimal doesn't begin with anything else than a digit
 pub decimal_starts : (n : ℕ) (r s : List ℕ) → n < 2 ^ 127 → Stops (among digit_bytes) r → Stops (among digit_bytes) s → decimal n ++ r ≢ s
 decimal_starts n r s h u v e = decimal_not_empty n h (cut (among digit_bytes) (decimal n) [] r s (only_decimal n h) refl u v e).0
-
--- no decimal begins with a minus
-decimal_no_minus : (n : ℕ) (xs : List ℕ) → n < 2 ^ 127 → decimal n ≢ 45 ∷ xs
-decimal_no_minus n xs h e = false≢true (subst (Only (among digit_bytes)) e (only_decimal n h))
-
-abbrev pub signed_bytes : List ℕ
-signed_bytes = codes "0123456789-"
-
--- a signed number has digits and a minus only, and its text determines it
-pub only_signed_decimal : (z : ℤ) → IsNumber z → Only (among signed_bytes) (signed_decimal z)
-only_signed_decimal (pos n) h = only_more digit_bytes (among signed_bytes) (decimal n) refl (only_decimal n h)
-only_signed_decimal (negsuc n) h = only_more digit_bytes (among signed_bytes) (decimal (suc n)) refl (only_decimal (suc n) h)
-
-pub signed_decimal_determines : (y z : ℤ) → IsNumber y → IsNumber z → signed_decimal y ≡ signed_decimal z → y ≡ z
-signed_decimal_determines (pos m) (pos n) p q e = ap pos (decimal_determines m n p q e)
-signed_decimal_determines (pos m) (negsuc n) p q e = absurd (decimal_no_minus m _ p e)
-signed_decimal_determines (negsuc m) (pos n) p q e = absurd (decimal_no_minus n _ q (sym e))
-signed_decimal_determines (negsuc m) (negsuc n) p q e =
-    let rest : decimal (suc m) ≡ decimal (suc n) = ap (drop 1) e in
-    let same = decimal_determines (suc m) (suc n) p q rest in
-    ap negsuc (omega arith)
 
 -- a text that is left out where a test holds
 abbrev pub left_out : Bool → List ℕ → List ℕ

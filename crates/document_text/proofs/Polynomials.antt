@@ -6,7 +6,8 @@ use Rattle.ring_laws.specs.Meaning.{Meaning, listed, items}
 use Rattle.ring_laws.specs.Wholes.{number_of}
 use Rattle.hypergeometric.specs.TermFacts.{IsNumber, IsPolynomial}
 use Rattle.document_text.specs.Spelling.{Monomial, monomial_before, monomials_in_n, monomials_in_k, monomials_text, polynomial_text, polynomial_in_n_text}
-use Rattle.document_text.proofs.Cutting.{among, Only}
+use Rattle.exact_texts.proofs.Cuts.{among}
+use Rattle.exact_texts.specs.Texts.{Only}
 use Rattle.document_text.proofs.Monomials.{IsMonomial, HasCoefficient}
 use Rattle.document_text.proofs.MonomialLists.{monomials_determine}
 use Rattle.document_text.proofs.MonomialBytes.{polynomial_bytes, only_monomials}

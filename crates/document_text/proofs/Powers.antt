@@ -5,8 +5,9 @@ use Rattle.std.specs.Str.{byte}
 use Rattle.std.proofs.Common.{refl, ap, sym, subst, ◌∙◌, append-nil}
 use Rattle.std.proofs.lemmas.Bool.{and_parts, and_from}
 use Rattle.document_text.specs.Spelling.{power_text, starred}
-use Rattle.document_text.proofs.Cutting.{among, Only, Stops, only_append, only_more, cut}
-use Rattle.document_text.proofs.Numerals.{digit_bytes, only_decimal, decimal_determines}
+use Rattle.exact_texts.proofs.Cuts.{among, Stops, only_append, only_more, cut}
+use Rattle.exact_texts.specs.Texts.{Only}
+use Rattle.exact_texts.proofs.Numerals.{digit_bytes, only_decimal, decimal_determines}
 
 -- a power is of bytes of each class that has its name, the caret and the digits
 only_power : (class : ℕ → Bool) (name p : ℕ) → p < 2 ^ 127 → Only class (name ∷ codes "^0123456789") → Only class (power_text name p)

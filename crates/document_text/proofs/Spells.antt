@@ -1,6 +1,7 @@
 -- What it is for the text of an item to determine the item, and that the item is then determined in the midst of a longer text.
 use Rattle.std.specs.Prelude.{◌≡◌, ℕ, Bool, List, ◌++◌}
-use Rattle.document_text.proofs.Cutting.{among, Only, Stops, only_more, cut_behind}
+use Rattle.exact_texts.proofs.Cuts.{among, Stops, only_more, cut_behind}
+use Rattle.exact_texts.specs.Texts.{Only}
 
 -- The text of each item that W holds of has only bytes of the class, and determines the item.
 pub record Spells {A : Type 0} (class : ℕ → Bool) (W : A → Type 0) (text : A → List ℕ) : Type 0 where

@@ -3,11 +3,12 @@ use Rattle.std.specs.Prelude.{◌≡◌, ℕ, Bool, codes, List, drop}
 use Rattle.std.specs.List.{AllByRecursion}
 use Rattle.std.proofs.Common.{refl, ap}
 use Rattle.hypergeometric.specs.ProperTerm.{ProperTerm}
-use Rattle.document_text.specs.Spelling.{◌⧺◌, fraction_text, polynomial_text}
+use Rattle.exact_texts.specs.Texts.{◌⧺◌, other_than, Only}
+use Rattle.document_text.specs.Spelling.{fraction_text, polynomial_text}
 use Rattle.document_text.specs.TermText.{factors_text, proper_term_text}
 use Rattle.hypergeometric.specs.FormOrder.{IsFactor}
 use Rattle.hypergeometric.specs.TermFacts.{IsProper, IsLowest, IsPolynomial}
-use Rattle.document_text.proofs.Cutting.{among, other_than, Only, only_append}
+use Rattle.exact_texts.proofs.Cuts.{among, only_append}
 use Rattle.document_text.proofs.Numerals.{fraction_bytes, only_fraction, fraction_determines}
 use Rattle.document_text.proofs.MonomialBytes.{polynomial_bytes}
 use Rattle.document_text.proofs.Polynomials.{only_polynomial, polynomial_determines}

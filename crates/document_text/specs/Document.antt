@@ -1,12 +1,13 @@
 -- The document of the command gosper with a found claim, and its one text.
-use Rattle.std.specs.Prelude.{ℕ, codes, List, [], ◌∷◌, map, Option, Some, None}
+use Rattle.std.specs.Prelude.{ℕ, codes, List, [], map, Option, Some, None}
 use Rattle.std.specs.Fmt.{decimal}
 use Rattle.hypergeometric.specs.LinearForm.{LinearForm, FactorList}
 use Rattle.hypergeometric.specs.ProperTerm.{ProperTerm}
 use Rattle.hypergeometric.specs.Claim.{Claim}
 use Rattle.hypergeometric.specs.Match.{Match}
-use Rattle.document_text.specs.Spelling.{◌⧺◌, joined, polynomial_text, polynomial_in_n_text}
-use Rattle.document_text.specs.TermText.{form_text, times_text, items_text, factors_text, factor_list_text, proper_term_text}
+use Rattle.exact_texts.specs.Texts.{◌⧺◌, joined, items_text, line}
+use Rattle.document_text.specs.Spelling.{polynomial_text, polynomial_in_n_text}
+use Rattle.document_text.specs.TermText.{form_text, times_text, factors_text, factor_list_text, proper_term_text}
 
 -- a found claim: its order, Gosper's normal form (the matches, q and r), the recurrence with its certificate, and the range of the sum
 pub record Found : Type 0 where
@@ -21,10 +22,6 @@ pub record Found : Type 0 where
 pub record Document : Type 0 where
   pub term : ProperTerm
   pub found : Found
-
--- a word, what follows it, and a newline
-abbrev pub line : List ℕ → List ℕ → List ℕ
-line word rest = word ⧺ rest ⧺ 10 ∷ []
 
 -- `form by shift`, and ` x` and the power where it isn't 1
 abbrev pub match_text : Match → List ℕ

@@ -1,21 +1,11 @@
 -- How numbers, fractions and polynomials are spelled.
-use Rattle.std.specs.Prelude.{ℕ, zero, suc, if◌then◌else◌, nat_eq, ℤ, pos, negsuc, unsigned_abs, List, [], ◌∷◌, ◌++◌, flat_map}
+use Rattle.std.specs.Prelude.{ℕ, zero, suc, if◌then◌else◌, nat_eq, ℤ, pos, negsuc, unsigned_abs, List, [], ◌∷◌, flat_map}
 use Rattle.std.specs.Fmt.{decimal, signed_decimal}
 use Rattle.std.specs.Str.{byte}
 use Rattle.ring_laws.specs.Meaning.{Meaning, items}
 use Rattle.ring_laws.specs.Wholes.{number_of}
 use Rattle.hypergeometric.specs.Fraction.{Fraction}
-
--- one text after another; it groups to the right, so that texts of known bytes compute
-infixr 5 ◌⧺◌
-abbrev pub ◌⧺◌ : List ℕ → List ℕ → List ℕ
-xs ⧺ ys = xs ++ ys
-
--- texts with a separator between them
-abbrev pub joined : List ℕ → List (List ℕ) → List ℕ
-joined separator [] = []
-joined separator (x ∷ []) = x
-joined separator (x ∷ y ∷ rest) = x ⧺ separator ⧺ joined separator (y ∷ rest)
+use Rattle.exact_texts.specs.Texts.{◌⧺◌}
 
 -- `u`, or `u/v` where v isn't 1
 abbrev pub fraction_text : Fraction → List ℕ

@@ -1,9 +1,10 @@
 -- How linear forms, lists of factors and proper terms are spelled.
-use Rattle.std.specs.Prelude.{ℕ, if◌then◌else◌, nat_eq, codes, List, [], ◌∷◌, map}
+use Rattle.std.specs.Prelude.{ℕ, if◌then◌else◌, nat_eq, codes, List, [], map}
 use Rattle.std.specs.Fmt.{decimal, signed_decimal}
 use Rattle.hypergeometric.specs.LinearForm.{LinearForm, Factor, FactorList}
 use Rattle.hypergeometric.specs.ProperTerm.{ProperTerm}
-use Rattle.document_text.specs.Spelling.{◌⧺◌, joined, fraction_text, monomial_before, monomials_text, polynomial_text}
+use Rattle.exact_texts.specs.Texts.{◌⧺◌, items_text}
+use Rattle.document_text.specs.Spelling.{fraction_text, monomial_before, monomials_text, polynomial_text}
 
 -- a form is spelled as the polynomial that it is
 unfoldable pub form_text : LinearForm → List ℕ
@@ -16,11 +17,6 @@ times_text power = if nat_eq power 1 then [] else codes " x" ⧺ decimal power
 -- a form, and ` x` and the power where it isn't 1
 abbrev pub factor_text : Factor → List ℕ
 factor_text x = form_text x.form ⧺ times_text x.power
-
--- `-` where there are no items
-abbrev pub items_text : List (List ℕ) → List ℕ
-items_text [] = codes "-"
-items_text (x ∷ xs) = joined (codes ", ") (x ∷ xs)
 
 -- the factors with commas between them, and `-` where there are none
 abbrev pub factors_text : List Factor → List ℕ

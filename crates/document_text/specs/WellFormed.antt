@@ -1,5 +1,5 @@
 -- Which documents are well formed: the bounds that a document keeps.
-use Rattle.std.specs.Prelude.{◌≡◌, ◌≢◌, ℕ, ◌+◌, ◌^◌, ◌≤◌, ◌<◌, pos, List, [], Option, Some, None}
+use Rattle.std.specs.Prelude.{◌≡◌, ◌≢◌, ◌+◌, ◌^◌, ◌≤◌, ◌<◌, pos, List, [], Option, Some, None}
 use Rattle.std.specs.List.{AllByRecursion}
 use Rattle.hypergeometric.specs.LinearForm.{LinearForm, Factor, FactorList}
 use Rattle.hypergeometric.specs.FormOrder.{IsForm, IsPrimitive, IsFactor, IsSorted}

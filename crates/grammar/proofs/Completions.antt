@@ -1,5 +1,6 @@
 -- Each state that goes on can be completed to a text of its kind.
 use Rattle.std.proofs.Common.{◌≡◌, ℕ, ◌+◌, ◌-◌, ◌≤◌, zero, suc, true, List, [], ◌∷◌, Some, None, refl, ap, sym, ◌∙◌, arith, ltb-true}
+use Rattle.std.proofs.lemmas.Bool.{false≢true}
 use Rattle.std.specs.Prelude.{◌==◌}
 use Rattle.grammar.specs.Token.{digits, comma, semicolon, Placed}
 use Rattle.grammar.specs.Grammar.{Sum, product_alone, power_alone, postfix_alone, atom_alone, the_k, sum_text}
@@ -8,7 +9,6 @@ use Rattle.grammar.specs.Several.{term_alone, term_more, terms_text, Derivation,
 use Rattle.grammar.proofs.State.{State}
 use Rattle.grammar.proofs.States.{Before, BeforeBound, BoundState, wants_bound, wants_digits, has_bound, States, in_term, in_bounds, with_term, with_bound, before_text, before_bound_text, bound_state_text, states_text, GoesOnBounds, GoesOn}
 use Rattle.grammar.proofs.Prefixes.{completion}
-use Rattle.grammar.proofs.WholeTexts.{differ}
 
 pub with_term_text : (b : Before) (s : Sum) (rest : List Placed) → terms_text (with_term b s) rest ≡ before_text b (sum_text s rest)
 with_term_text None s rest = refl
@@ -100,12 +100,12 @@ completed a_recurrence (in_term None s) on = first_completed a_recurrence s (λ 
 completed a_pair (in_term (Some (term_alone t, at)) s) on = last_completed a_pair (Some (term_alone t, at)) s (λ c. refl)
 completed a_boxed (in_term (Some (term_alone t, at)) s) on = second_of_box t at s
 completed a_recurrence (in_term (Some b) s) on = last_completed a_recurrence (Some b) s (λ c. refl)
-completed a_term (in_term (Some b) s) on = differ on
-completed a_pair (in_term (Some (term_more ts c t, at)) s) on = differ on
-completed a_boxed (in_term (Some (term_more ts c t, at)) s) on = differ on
+completed a_term (in_term (Some b) s) on = absurd (false≢true on)
+completed a_pair (in_term (Some (term_more ts c t, at)) s) on = absurd (false≢true on)
+completed a_boxed (in_term (Some (term_more ts c t, at)) s) on = absurd (false≢true on)
 completed a_boxed (in_bounds (term_more (term_alone t) c u) at b x) on = bounds_of_box t u c at b x on.1
-completed a_boxed (in_bounds (term_alone t) at b x) on = differ on.0
-completed a_boxed (in_bounds (term_more (term_more ts d t) c u) at b x) on = differ on.0
-completed a_term (in_bounds ts at b x) on = differ on.0
-completed a_pair (in_bounds ts at b x) on = differ on.0
-completed a_recurrence (in_bounds ts at b x) on = differ on.0
+completed a_boxed (in_bounds (term_alone t) at b x) on = absurd (false≢true on.0)
+completed a_boxed (in_bounds (term_more (term_more ts d t) c u) at b x) on = absurd (false≢true on.0)
+completed a_term (in_bounds ts at b x) on = absurd (false≢true on.0)
+completed a_pair (in_bounds ts at b x) on = absurd (false≢true on.0)
+completed a_recurrence (in_bounds ts at b x) on = absurd (false≢true on.0)

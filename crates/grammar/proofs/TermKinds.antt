@@ -1,5 +1,6 @@
 -- A prefix of a text of a kind is what its reader goes through.
 use Rattle.std.proofs.Common.{◌≡◌, Bool, true, false, List, [], ◌∷◌, ◌++◌, Option, Some, None, refl, ap, sym, ◌∙◌, append-nil, subst}
+use Rattle.std.proofs.lemmas.Bool.{false≢true}
 use Rattle.std.specs.Prelude.{is_some, option_and_then, if◌then◌else◌}
 use Rattle.grammar.specs.Token.{semicolon, Placed}
 use Rattle.grammar.specs.Grammar.{Sum}
@@ -7,7 +8,7 @@ use Rattle.grammar.specs.Several.{terms_text, Derivation, only_terms, with_bound
 use Rattle.grammar.proofs.State.{finished}
 use Rattle.grammar.proofs.States.{wants_bound, wants_digits, has_bound, States, in_term, in_bounds, start, with_term, with_bound, step_terms, run_terms, where_whole, finished_terms, before_text, states_text}
 use Rattle.grammar.proofs.Prefixes.{some_of, none_some, finished_text}
-use Rattle.grammar.proofs.WholeTexts.{differ, derivation_read}
+use Rattle.grammar.proofs.WholeTexts.{derivation_read}
 use Rattle.grammar.proofs.Follows.{run_follows, goes_on}
 use Rattle.grammar.proofs.Completions.{with_term_text, with_bound_text, completed}
 
@@ -86,7 +87,7 @@ continues_where kind ts = go (run_terms kind start ts) refl
   where
     go : (o : Option States) → run_terms kind start ts ≡ o → is_some o ≡ true → Continues kind ts
     go (Some m) e h = run_continues kind ts m e
-    go None e h = differ h
+    go None e h = absurd (false≢true h)
 
 pub not_derived_where : (kind : Kind) (ts : List Placed) → option_and_then (finished_terms kind) (run_terms kind start ts) ≡ None → (c : Derivation) → ¬ (Derives kind ts c)
 not_derived_where kind ts e c d =

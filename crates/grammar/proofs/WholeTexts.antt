@@ -1,7 +1,7 @@
 -- A whole text, with bounds or without, is read to a finished state.
 use Rattle.std.proofs.Common.{◌≡◌, ℕ, ◌≤◌, true, false, List, [], ◌∷◌, Option, Some, None, refl, ap, ◌∙◌, arith}
 use Rattle.std.specs.Prelude.{if◌then◌else◌, nat_lt, ◌==◌}
-use Rattle.std.proofs.lemmas.Bool.{eqb-true, lt-ltb}
+use Rattle.std.proofs.lemmas.Bool.{eqb-true, lt-ltb, false≢true}
 use Rattle.grammar.specs.Token.{comma, semicolon, Placed}
 use Rattle.grammar.specs.Bounds.{Bound, plain_bound, minus_bound, Bounds, bound_alone, bound_more, bound_text, bounds_text, count}
 use Rattle.grammar.specs.Several.{Terms, term_alone, term_more, Derivation, only_terms, with_bounds, derivation_text, Kind, a_term, a_pair, a_boxed, a_recurrence, is_whole}
@@ -9,12 +9,6 @@ use Rattle.grammar.proofs.States.{BeforeBound, wants_bound, has_bound, States, i
 use Rattle.grammar.proofs.State.{begin}
 use Rattle.grammar.proofs.Runs.{ended, finished_ended}
 use Rattle.grammar.proofs.Several.{after, last_term, before_last, whole_again, StaysOpen, terms_run}
-
-pub differ : {B : Type 0} → false ≡ true → B
-differ e = absurd (no_path e)
-  where
-    no_path : false ≡ true → ⊥
-    no_path d = cc
 
 -- the last bound, and what stands before it
 abbrev last_bound : Bounds → Bound
@@ -67,9 +61,9 @@ stays_open a_recurrence (term_more ts at t) e = (refl, open_before ts)
     open_before : (ts : Terms) → StaysOpen a_recurrence ts
     open_before (term_alone s) = tt
     open_before (term_more ts at s) = (refl, open_before ts)
-stays_open a_term (term_more ts at t) e = differ e
-stays_open a_boxed (term_more ts at t) e = differ e
-stays_open a_pair (term_more (term_more ts at s) at_2 t) e = differ e
+stays_open a_term (term_more ts at t) e = absurd (false≢true e)
+stays_open a_boxed (term_more ts at t) e = absurd (false≢true e)
+stays_open a_pair (term_more (term_more ts at s) at_2 t) e = absurd (false≢true e)
 
 abbrev IsRead : Kind → Derivation → Type 0
 IsRead kind d = (m : States) × (run_terms kind start (derivation_text d []) ≡ Some m) × (finished_terms kind m ≡ Some d)
@@ -109,8 +103,8 @@ pub derivation_read : (kind : Kind) (d : Derivation) → is_whole kind d ≡ tru
 derivation_read kind (only_terms ts) e = terms_read kind ts e
 derivation_read a_boxed (with_bounds (term_more (term_alone s) c t) at bs) e =
     box_read a_boxed (term_more (term_alone s) c t) at bs (refl, tt) refl refl (four (count bs) e) e
-derivation_read a_boxed (with_bounds (term_alone s) at bs) e = differ e
-derivation_read a_boxed (with_bounds (term_more (term_more ts d s) c t) at bs) e = differ e
-derivation_read a_term (with_bounds ts at bs) e = differ e
-derivation_read a_pair (with_bounds ts at bs) e = differ e
-derivation_read a_recurrence (with_bounds ts at bs) e = differ e
+derivation_read a_boxed (with_bounds (term_alone s) at bs) e = absurd (false≢true e)
+derivation_read a_boxed (with_bounds (term_more (term_more ts d s) c t) at bs) e = absurd (false≢true e)
+derivation_read a_term (with_bounds ts at bs) e = absurd (false≢true e)
+derivation_read a_pair (with_bounds ts at bs) e = absurd (false≢true e)
+derivation_read a_recurrence (with_bounds ts at bs) e = absurd (false≢true e)

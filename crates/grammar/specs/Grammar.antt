@@ -71,6 +71,7 @@ sum_place (product_alone p) next = next
 sum_place (minus_product at p) next = at
 sum_place (product_more s turned at p) next = sum_place s at
 
+-- the first sign of a product, or the sign that follows where it has none
 abbrev pub product_place : Product → ℕ → ℕ
 product_place (power_alone w) next = next
 product_place (power_more p turned at w) next = product_place p at

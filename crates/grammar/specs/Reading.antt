@@ -5,6 +5,7 @@ use Rattle.grammar.specs.Tokens.{Flaw, strange, not_ascii, unknown_name, literal
 use Rattle.grammar.specs.Tree.{Tree}
 use Rattle.grammar.specs.Several.{Derivation, derivation_trees, derivation_bounds, Kind, Derives, Continues}
 
+-- what is wrong with a text, and the place of the byte where it is
 pub data Fault : Type 0 where
   unexpected_at : ℕ → Fault
   unknown_name_at : ℕ → Fault
@@ -14,6 +15,7 @@ pub data Fault : Type 0 where
   nesting_at : ℕ → Fault
   literal_too_large_at : ℕ → Fault
 
+-- the fault of a text whose token at this place is flawed
 abbrev pub flaw_at : Flaw → ℕ → Fault
 flaw_at strange at = unexpected_at at
 flaw_at not_ascii at = not_ascii_at at
@@ -45,6 +47,7 @@ pub record AreFitting (kind : Kind) (text : List ℕ) (ts : List Placed) (end : 
   pub nested : IsNested64 [] ts
   pub continued : Continues kind ts
 
+-- behind some tokens that a whole text may begin with, the text has this fault
 abbrev pub IsFirstFault : Kind → List ℕ → Fault → Type 0
 IsFirstFault kind text fault = (ts : List Placed) × (end : ℕ) × AreFitting kind text ts end
     × IsFaultBehind kind text ts (past_spaces text end) (next_front text end) fault

@@ -17,8 +17,8 @@ pub record AreEqual (f g : Fraction) : Type 0 where
   pub right_defined : IsDefined g
   pub cross : f.top *ℤ g.bottom ≡ g.top *ℤ f.bottom
 
--- both fractions are defined, and equal
 infix 4 ◌≈◌
+-- both fractions are defined, and equal
 abbrev pub ◌≈◌ : Fraction → Fraction → Type 0
 f ≈ g = AreEqual f g
 

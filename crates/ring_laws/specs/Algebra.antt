@@ -20,6 +20,7 @@ pub record Ops (A : Type 0) : Type 1 where
   -- each number of the first is at least its counterpart in the second
   pub Covers : A → A → Type 0
 
+-- the laws of a commutative ring with unit, of its whole numbers and of its test for zero
 pub record RingLaws {A : Type 0} (o : Ops A) : Type 0 where
   pub nought_sum : (x : A) → o.sum o.nought x ≡ x
   pub sum_comm : (x y : A) → o.sum x y ≡ o.sum y x
@@ -35,6 +36,7 @@ pub record RingLaws {A : Type 0} (o : Ops A) : Type 0 where
   pub whole_product : (v w : ℤ) → o.whole (v *ℤ w) ≡ o.product (o.whole v) (o.whole w)
   pub is_nought : (x : A) → IsTrue (o.is_nought x) ↔ (x ≡ o.nought)
 
+-- how magnitudes, what fits and what covers go with sums and products
 pub record MagnitudeLaws {A : Type 0} (o : Ops A) : Type 0 where
   pub of_magnitude : (x : A) → o.magnitude (o.magnitude x) ≡ o.magnitude x
   pub of_nought : o.magnitude o.nought ≡ o.nought
@@ -66,6 +68,7 @@ pub record Algebra : Type 1 where
 abbrev pub Passing : Algebra → Type 0
 Passing a = (m : Meaning) × IsTrue (a.passes m)
 
+-- each operation on members of the ring gives a member
 pub record Closed (a : Algebra) : Type 0 where
   pub nought : IsTrue (a.passes a.ops.nought)
   pub unit : IsTrue (a.passes a.ops.unit)
@@ -104,5 +107,6 @@ same_passing a x y e = Σ_path e (to_path_p (λ i. IsTrue (a.passes (e i))) (Boo
 abbrev pub SumInBounds : Algebra → Meaning → Meaning → Type 0
 SumInBounds a x y = a.ops.Fits (a.ops.sum (a.ops.magnitude x) (a.ops.magnitude y))
 
+-- the counterpart of a product on magnitudes fits
 abbrev pub ProductInBounds : Algebra → Meaning → Meaning → Type 0
 ProductInBounds a x y = a.ops.Fits (a.ops.product (a.ops.magnitude x) (a.ops.magnitude y))

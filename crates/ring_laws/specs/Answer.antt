@@ -19,10 +19,12 @@ abbrev pub GivesInBounds : {T : Type 0} → (T → Meaning) → Type 0 → Meani
 GivesInBounds meaning InBounds m (Ok r) = InBounds × (meaning r ≡ m)
 GivesInBounds meaning InBounds m (Err fault) = OnFault (¬ InBounds) fault
 
+-- a fault that owes a fact owes whatever follows from it
 pub fault_weaker : {P Q : Type 0} (fault : RingFault) → (P → Q) → OnFault P fault → OnFault Q fault
 fault_weaker TooLarge f h = f h
 fault_weaker Memory f h = tt
 
+-- a fault of memory owes nothing
 pub fault_memory : (P : Type 0) (fault : RingFault) → fault ≡ Memory → OnFault P fault
 fault_memory P TooLarge e = cc
 fault_memory P Memory e = tt

@@ -1,44 +1,18 @@
 -- The whole numbers keep the laws of a ring and those of magnitudes.
 -- These are lemmas: they stand here, and not in proofs/, since the ring of `Whole` names the last of them.
-use Rattle.std.specs.Prelude.{◌≡◌, ℕ, zero, suc, ◌+◌, ◌*◌, ◌≤◌, ◌<◌, ◌^◌, ℤ, pos, negsuc, ◌+ℤ◌, ◌*ℤ◌, ◌≤ℤ◌, neg_ℤ, unsigned_abs, IsTrue, ◌↔◌, ◌⊎◌, refl}
+use Rattle.std.specs.Prelude.{◌≡◌, ℕ, zero, suc, ◌+◌, ◌*◌, ◌≤◌, ◌<◌, ◌^◌, ℤ, pos, negsuc, ◌+ℤ◌, ◌*ℤ◌, ◌≤ℤ◌, neg_ℤ, unsigned_abs, IsTrue, ◌↔◌, refl}
 use Rattle.std.proofs.Common.{ap, arith, mul-le-mul_left, sym, ◌∙◌, inl, inr, ⊎_elim, lit<}
-use borrow.Author.Differences.{up, down, same_in, sum_is_lem, product_is, abs_is, le_out, at_most_in}
+use borrow.Author.Differences.{abs_is, le_out, at_most_in}
 use Rattle.std.proofs.lemmas.Int.{ints, unsigned_abs-mul}
 use Rattle.std.proofs.Math.IntN.{+ℤ_comm, +ℤ_assoc, +ℤ_idl, +ℤ_invr, *ℤ_comm}
+use Rattle.ring_solver.proofs.Integers.{up-*ℤ, down-*ℤ, *ℤ_assoc, *ℤ_distrib, *ℤ_one}
+use Rattle.ring_solver.proofs.Linear.{product_zero_ℕ}
 use Rattle.ring_laws.specs.Meaning.{number, several}
 use Rattle.ring_laws.specs.Algebra.{RingLaws, MagnitudeLaws, Passing, Closed, within, Laws, same_passing}
 use Rattle.ring_laws.specs.Wholes.{number_of, is_zero, whole_algebra}
 
-up_product : (a b : ℤ) → up (a *ℤ b) ≡ up a * up b + down a * down b
-up_product a b = (product_is a b).0
-
-down_product : (a b : ℤ) → down (a *ℤ b) ≡ up a * down b + down a * up b
-down_product a b = (product_is a b).1
-
-crossed : (p q u d s t : ℕ) → u + s ≡ d + t → p * u + q * d + (p * s + q * t) ≡ p * d + q * u + (p * t + q * s)
-crossed p q u d s t e = omega (arith, ap (λ z. p * z) e, ap (λ z. q * z) e)
-
-distributes_whole : (a b c : ℤ) → a *ℤ (b +ℤ c) ≡ a *ℤ b +ℤ a *ℤ c
-distributes_whole a b c =
-    let k = crossed (up a) (down a) (up (b +ℤ c)) (down (b +ℤ c)) (down b + down c) (up b + up c) (omega (arith, sum_is_lem b c)) in
-    same_in (a *ℤ (b +ℤ c)) (a *ℤ b +ℤ a *ℤ c)
-    (omega (
-      arith,
-      k,
-      sum_is_lem (a *ℤ b) (a *ℤ c),
-      up_product a b,
-      down_product a b,
-      up_product a c,
-      down_product a c,
-      up_product a (b +ℤ c),
-      down_product a (b +ℤ c),
-    ))
-
-assoc_whole : (a b c : ℤ) → a *ℤ b *ℤ c ≡ a *ℤ (b *ℤ c)
-assoc_whole a b c = same_in (a *ℤ b *ℤ c) (a *ℤ (b *ℤ c)) (simp (up_product, down_product) (omega arith))
-
 unit_whole : (a : ℤ) → pos 1 *ℤ a ≡ a
-unit_whole a = same_in (pos 1 *ℤ a) a (simp (up_product, down_product) (omega arith))
+unit_whole a = *ℤ_comm (pos 1) a ∙ *ℤ_one a
 
 is_zero_whole : (z : ℤ) → IsTrue (is_zero z) ↔ (z ≡ pos 0)
 is_zero_whole (pos zero) = (λ _. refl, λ _. refl)
@@ -56,8 +30,9 @@ le_nat m n h = omega (arith, ints)
 
 le_product : (x y : ℤ) (n : ℕ) → y ≤ℤ x → (y *ℤ pos n) ≤ℤ (x *ℤ pos n)
 le_product x y n h = at_most_in (y *ℤ pos n) (x *ℤ pos n)
-    (omega (arith, up_product x (pos n), up_product y (pos n), down_product x (pos n), down_product y (pos n), mul-le-mul_left n (le_out y x h)))
+    (omega (arith, up-*ℤ x (pos n), up-*ℤ y (pos n), down-*ℤ x (pos n), down-*ℤ y (pos n), mul-le-mul_left n (le_out y x h)))
 
+-- sums, products, negatives and absolute values of whole numbers are whole numbers
 abbrev pub whole_closed : Closed whole_algebra
 whole_closed = record {
   nought = refl;
@@ -90,8 +65,8 @@ whole_ring = record {
   sum_neg = λ x. ap at (+ℤ_invr (number_of x.0));
   unit_product = λ x. ap at (unit_whole (number_of x.0)) ∙ again x;
   product_comm = λ x y. ap at (*ℤ_comm (number_of x.0) (number_of y.0));
-  product_assoc = λ x y z. ap at (assoc_whole (number_of x.0) (number_of y.0) (number_of z.0));
-  distributes = λ x y z. ap at (distributes_whole (number_of x.0) (number_of y.0) (number_of z.0));
+  product_assoc = λ x y z. ap at (*ℤ_assoc (number_of x.0) (number_of y.0) (number_of z.0));
+  distributes = λ x y z. ap at (*ℤ_distrib (number_of x.0) (number_of y.0) (number_of z.0));
   whole_zero = refl;
   whole_one = refl;
   whole_sum = λ v w. refl;
@@ -104,11 +79,6 @@ whole_ring = record {
 
 abs_zero : (z : ℤ) → pos (unsigned_abs z) ≡ pos 0 → z ≡ pos 0
 abs_zero z e = omega (arith, ints, abs_is z)
-
-zero_factor : (m n : ℕ) → m * n ≡ 0 → (m ≡ 0) ⊎ (n ≡ 0)
-zero_factor zero n e = inl refl
-zero_factor (suc m) zero e = inr refl
-zero_factor (suc m) (suc n) e = absurd (omega arith)
 
 below_factor : (m n b : ℕ) → m * n < b → ¬ (n ≡ 0) → m < b
 below_factor m zero b h ne = absurd (ne refl)
@@ -140,11 +110,12 @@ whole_magnitudes = record {
   fits_covered = λ x y h p. omega (arith, ints, abs_is (number_of x.0));
   nought_covers = λ x p. ap (λ n. at (pos n)) (omega (arith, ints));
   factors = λ x y e. ⊎_elim (λ h. inl (ap (λ n. at (pos n)) h)) (λ h. inr (ap (λ n. at (pos n)) h))
-      (zero_factor (unsigned_abs (number_of x.0)) (unsigned_abs (number_of y.0))
+      (product_zero_ℕ (unsigned_abs (number_of x.0)) (unsigned_abs (number_of y.0))
       (omega (arith, ints, number_at (pos (unsigned_abs (number_of x.0) * unsigned_abs (number_of y.0))) (at (pos 0)) e)));
   fits_factor = λ x y h ne. below_factor (unsigned_abs (number_of x.0)) (unsigned_abs (number_of y.0)) (2 ^ 127) h
       (λ e. ne (from_number y (pos 0) (abs_zero (number_of y.0) (ap pos e))));
 }
 
+-- the whole numbers keep all laws of a ring
 pub whole_laws : Laws whole_algebra
 whole_laws = record { closed = whole_closed; ring = whole_ring; magnitudes = whole_magnitudes }

@@ -3,6 +3,7 @@ use Rattle.std.specs.Prelude.{zero, suc, ◌<◌, ◌^◌, ℤ, pos, negsuc, ◌
 use Rattle.ring_laws.specs.Meaning.{Meaning, number, several}
 use Rattle.ring_laws.specs.Algebra.{Algebra}
 
+-- whether a meaning is a number and not a list
 abbrev pub is_number : Meaning → Bool
 is_number (number z) = true
 is_number (several xs) = false
@@ -12,11 +13,13 @@ abbrev pub number_of : Meaning → ℤ
 number_of (number z) = z
 number_of (several xs) = pos 0
 
+-- whether a whole number is 0
 abbrev pub is_zero : ℤ → Bool
 is_zero (pos zero) = true
 is_zero (pos (suc n)) = false
 is_zero (negsuc n) = false
 
+-- the ring of whole numbers, on the meanings that are numbers
 abbrev pub whole_algebra : Algebra
 whole_algebra = record {
   passes = is_number;

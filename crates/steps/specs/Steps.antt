@@ -36,8 +36,8 @@ abbrev pub after : {P R A B : Type 0} → Result A (Refusal R) → List (Operati
 after (Ok x) done f = record { outcome = (f x).outcome; operations = done ++ (f x).operations }
 after (Err r) done f = record { outcome = Err r; operations = done }
 
--- the first steps, and where they give something, those that follow from it
 infixr 2 ◌then◌
+-- the first steps, and where they give something, those that follow from it
 abbrev pub ◌then◌ : {P R A B : Type 0} → Steps P R A → (A → Steps P R B) → Steps P R B
 steps then f = after steps.outcome steps.operations f
 

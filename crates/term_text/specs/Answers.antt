@@ -29,10 +29,12 @@ abbrev pub ReadsTerm : List ℕ → Result Ast TextFault → Type 0
 ReadsTerm text (Ok a) = r.HasTrees k.a_term text (tree_of a ∷ [])
 ReadsTerm text (Err e) = HasFault k.a_term text e
 
+-- the two terms of a text, or its first fault
 abbrev pub ReadsPair : List ℕ → Result (Ast × Ast) TextFault → Type 0
 ReadsPair text (Ok p) = r.HasTrees k.a_pair text (tree_of p.0 ∷ tree_of p.1 ∷ [])
 ReadsPair text (Err e) = HasFault k.a_pair text e
 
+-- the two terms of a text and the four bounds of its box, or its first fault
 abbrev pub ReadsBoxed : List ℕ → Result (Ast × Ast × BoxRange) TextFault → Type 0
 ReadsBoxed text (Ok b) = r.HasContents k.a_boxed text (tree_of b.0 ∷ tree_of b.1 ∷ []) (b.2.n0 ∷ b.2.n1 ∷ b.2.k0 ∷ b.2.k1 ∷ [])
 ReadsBoxed text (Err e) = HasFault k.a_boxed text e

@@ -54,37 +54,45 @@ abbrev mutual
   atom_ast (bracket at s close) = sum_ast s
   atom_ast (choose at open_at upper comma_at lower close) = record { at = at; node = node.Binomial (sum_ast upper) (sum_ast lower) }
 
+-- the terms of a sum before the product that is being read
 abbrev pub terms_of : g.BeforeProduct → List Part
 terms_of g.at_start = []
 terms_of (g.after_minus at) = []
 terms_of (g.after_sum s turned at) = sum_part_asts s
 
+-- the place of a sum, and 0 before it has a sign
 abbrev pub sum_at_of : g.BeforeProduct → ℕ
 sum_at_of g.at_start = 0
 sum_at_of (g.after_minus at) = at
 sum_at_of (g.after_sum s turned at) = sum_place s at
 
+-- whether the product that is being read is subtracted
 abbrev pub subtracted_of : g.BeforeProduct → Bool
 subtracted_of g.at_start = false
 subtracted_of (g.after_minus at) = true
 subtracted_of (g.after_sum s turned at) = turned
 
+-- the factors of a product before the power that is being read
 abbrev pub factors_of : g.BeforePower → List Part
 factors_of g.at_first = []
 factors_of (g.after_product p turned at) = product_part_asts p
 
+-- the place of a product, and 0 before it has a sign
 abbrev pub product_at_of : g.BeforePower → ℕ
 product_at_of g.at_first = 0
 product_at_of (g.after_product p turned at) = product_place p at
 
+-- whether the product is divided by the power that is being read
 abbrev pub divided_of : g.BeforePower → Bool
 divided_of g.at_first = false
 divided_of (g.after_product p turned at) = turned
 
+-- the base and the place of its sign, where an exponent is being read
 abbrev pub base_of : g.BeforeAtom → Option Base
 base_of g.at_base = None
 base_of (g.after_base q at) = Some (record { ast = postfix_ast q; at = at })
 
+-- the code's state inside one pair of parentheses
 abbrev pub level_image : g.BeforeProduct → g.BeforePower → g.BeforeAtom → Level
 level_image s p b = record {
   terms = terms_of s;
@@ -96,28 +104,34 @@ level_image s p b = record {
   base = base_of b;
 }
 
+-- the code's note of what a parenthesis opened: a bracket, or one of the two sums of a binomial
 abbrev pub opened_image : g.Opened → Opened
 opened_image (g.by_bracket at) = Bracket
 opened_image (g.by_choose name_at at) = Upper name_at
 opened_image (g.by_comma name_at open_at upper at) = Lower name_at (sum_ast upper)
 
+-- the code's state outside of one open parenthesis
 abbrev pub outer_image : g.Open → Outer
 outer_image o = record { level = level_image o.0.product o.0.power o.0.atom; opened = opened_image o.1 }
 
+-- the code's states outside of the open parentheses, the innermost one last
 abbrev pub stack_image : List g.Open → List Outer
 stack_image [] = []
 stack_image (o ∷ st) = stack_image st ++ outer_image o ∷ []
 
+-- what a power ends with: an atom, a factorial sign or an exponent
 abbrev pub last_image : Power → Last
 last_image (postfix_alone (atom_alone a)) = last.Atom
 last_image (postfix_alone (factorial_at a at)) = last.Bang
 last_image (raised q at a) = last.Exponent
 
+-- the code's state behind a prefix of a term
 abbrev pub image : g.State → State
 image (g.wants_atom l st) = record { stage = stage.Atom; level = level_image l.product l.power l.atom; outer = stack_image st }
 image (g.wants_opening name_at l st) = record { stage = stage.Opening name_at; level = level_image l.product l.power l.atom; outer = stack_image st }
 image (g.has_power s p w st) = record { stage = stage.More (power_ast w) (last_image w); level = level_image s p g.at_base; outer = stack_image st }
 
+-- the code's token
 abbrev pub token_image : t.Token → Token
 token_image (t.digits value) = token.Digits (whole_of value)
 token_image t.name_n = token.N
@@ -134,6 +148,7 @@ token_image t.closing = token.Closing
 token_image t.comma = token.Comma
 token_image t.semicolon = token.Semicolon
 
+-- the code's state behind what may be the prefix of a term
 abbrev pub image_of : Option g.State → Option State
 image_of None = None
 image_of (Some s) = Some (image s)

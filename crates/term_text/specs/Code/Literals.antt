@@ -9,5 +9,6 @@ abbrev pub whole_where : (value : ℕ) (is_small : Bool) → nat_lt value (2 ^ 1
 whole_where value true small = record { value = pos value; small = ltb-true value (2 ^ 127) small }
 whole_where value false large = record { value = pos 0; small = lit< tt }
 
+-- the number of a literal as a whole number of the code
 abbrev pub whole_of : ℕ → Whole
 whole_of value = whole_where value (nat_lt value (2 ^ 127)) refl

@@ -33,50 +33,61 @@ abbrev pub Fails : {A : Type 0} → TextFault → Result A TextFault → Type 0
 Fails Memory read = Unit {0}
 Fails e read = read ≡ Err e
 
+-- a call gives this answer unless memory runs out
 abbrev pub Gives : {A : Type 0} → Result A TextFault → Result A TextFault → Type 0
 Gives (Ok x) read = read ≡ Ok x
 Gives (Err e) read = Fails e read
 
+-- what a reader knows before its first token
 abbrev pub start : Progress
 start = record { from = 0; several = record { before = []; now = Term begin }; places = []; empty = true }
 
+-- the places without the last one
 abbrev pub without_last : List ℕ → List ℕ
 without_last ps = take (length ps - 1) ps
 
+-- the places of the open parentheses behind a token at this place
 abbrev pub placed : List ℕ → Token → ℕ → List ℕ
 placed places token.Opening at = places ++ at ∷ []
 placed places token.Closing at = without_last places
 placed places _ at = places
 
+-- whether a token opens a parenthesis
 abbrev pub is_opening : Token → Bool
 is_opening token.Opening = true
 is_opening _ = false
 
+-- what a reader knows behind a token that may stand here; else the token is unexpected
 abbrev pub taken_state : Option Several → List ℕ → ℕ → ℕ → Result Progress TextFault
 taken_state None places at end = Err (Unexpected at)
 taken_state (Some s) places at end = Ok (record { from = end; several = s; places = places; empty = false })
 
+-- what a reader knows behind a token, or that it is nested too deep or unexpected
 abbrev pub taken : Kind → Progress → Token → ℕ → ℕ → Result Progress TextFault
 taken kind p t at end =
     if is_opening t && length p.places == 64 then Err (Nesting at)
     else taken_state (step_several kind p.several t at) (placed p.places t at) at end
 
+-- the fault of a text whose token at this place is flawed
 abbrev pub fault_of_flaw : Flaw → ℕ → TextFault
 fault_of_flaw flaw.Strange at = Unexpected at
 fault_of_flaw flaw.NotAscii at = NotAscii at
 fault_of_flaw flaw.UnknownName at = UnknownName at
 fault_of_flaw flaw.LiteralTooLarge at = LiteralTooLarge at
 
+-- the last of some places
 abbrev pub last_of : List ℕ → Option ℕ
 last_of [] = None
 last_of (a ∷ []) = Some a
 last_of (a ∷ b ∷ ps) = last_of (b ∷ ps)
 
+-- the fault of a text that ends too soon: empty, an open parenthesis, or an end that is unexpected
 abbrev pub end_fault : List ℕ → Bool → ℕ → TextFault
 end_fault places empty len =
     if empty then EmptyInput
     else (elim (last_of places) as (λ _. TextFault) [ None ↦ Unexpected len | Some at ↦ UnclosedParen at ])
 
+-- the terms and bounds of a text that ends here, or its fault
 abbrev pub ended : Kind → Progress → ℕ → Result Contents TextFault
 ended kind p len = elim (whole_contents kind p.several) as (λ _. Result Contents TextFault) [ Some c ↦ Ok c | None ↦ Err (end_fault p.places p.empty len) ]
 

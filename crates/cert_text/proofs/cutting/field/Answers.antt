@@ -1,5 +1,5 @@
 use Rattle.std.proofs.Common.{◌++◌}
-use Rattle.cert_text.proofs.Prefixes.{begins}
+use Rattle.exact_texts.proofs.Compared.{begins}
 use Rattle.cert_text.proofs.cutting.field.Goals as goal
 
 -- the word isn't there

@@ -1,5 +1,5 @@
 use Rattle.std.proofs.Common.{take}
-use Rattle.document_text.proofs.Cutting.{Only}
+use Rattle.exact_texts.specs.Texts.{Only}
 use Rattle.cert_text.specs.Reading.{outside}
 use Rattle.cert_text.proofs.cutting.length_until.Given as goal
 

@@ -1,6 +1,6 @@
 use Rattle.std.proofs.Common.{take, drop, ◌∙◌}
 use Rattle.std.proofs.lemmas.List.{take-append-drop}
-use Rattle.document_text.proofs.Cutting.{cut}
+use Rattle.exact_texts.proofs.Cuts.{cut}
 use Rattle.cert_text.specs.Reading.{outside}
 use Rattle.cert_text.proofs.cutting.until.Goals as goal
 
