@@ -1,0 +1,4 @@
+pub mod Forms
+pub mod OneVariable
+pub mod Signs
+pub mod OneVariableLaws
