@@ -16,7 +16,7 @@ use Rattle.hypergeometric.proofs.PrimitiveForms.{IsNotZero}
 use Rattle.hypergeometric.proofs.PrimitiveParts.{primitive_is}
 use Rattle.term_pieces.specs.Products.{power_among, IsProductOf}
 use Rattle.term_pieces.specs.NormalForm.{at_earlier_k}
-use Rattle.term_pieces.specs.Pieces.{Pieces, ArePiecesOf, q_forms, r_forms}
+use Rattle.term_pieces.specs.Pieces.{q_forms, r_forms}
 use Rattle.gosper_form.specs.NormalLists.{IsFormQuotient}
 use Rattle.gosper_form.proofs.QuotientForms.{IsClose, AllClose, q_close, r_close}
 
@@ -96,11 +96,11 @@ each_weaker : (P Q : LinearForm → Type 0) (xs : List Factor) → ((f : LinearF
 each_weaker P Q [] h p = tt
 each_weaker P Q (x ∷ xs) h p = (h x.form p.0, each_weaker P Q xs h p.1)
 
-pub quotient_of_pieces : (pieces : Pieces) (f : ProperTerm) (order : ℕ) → IsPlain f → order ≤ 6 → ArePiecesOf pieces f order
-    → IsFormQuotient pieces.q0 pieces.r0
-quotient_of_pieces pieces f order plain low are = record {
-  primitive = each_weaker IsPrimitivePart IsPrimitive pieces.q0.factors part_primitive
-      (parts_of_product pieces.q0 f.k_base.top (q_forms f order) are.q0 (q_close f order plain low));
-  earlier = each_weaker IsPrimitivePart (λ g. IsForm (at_earlier_k g 1)) pieces.r0.factors part_earlier
-      (parts_of_product pieces.r0 f.k_base.bottom (r_forms f order) are.r0 (r_close f order plain low));
+pub quotient_of_products : (q0 r0 : FactorList) (f : ProperTerm) (order : ℕ) → IsPlain f → order ≤ 6
+    → IsProductOf q0 f.k_base.top (q_forms f order) → IsProductOf r0 f.k_base.bottom (r_forms f order) → IsFormQuotient q0 r0
+quotient_of_products q0 r0 f order plain low above below = record {
+  primitive = each_weaker IsPrimitivePart IsPrimitive q0.factors part_primitive
+      (parts_of_product q0 f.k_base.top (q_forms f order) above (q_close f order plain low));
+  earlier = each_weaker IsPrimitivePart (λ g. IsForm (at_earlier_k g 1)) r0.factors part_earlier
+      (parts_of_product r0 f.k_base.bottom (r_forms f order) below (r_close f order plain low));
 }

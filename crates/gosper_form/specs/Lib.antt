@@ -9,3 +9,4 @@ pub mod NormalView
 pub mod NormalCandidates
 pub mod NormalShifts
 pub mod NormalLists
+pub mod OneProof

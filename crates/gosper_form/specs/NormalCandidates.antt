@@ -31,6 +31,7 @@ AreCandidates cs = AllByRecursion (λ c. form_of c.earlier ≡ at_earlier_k (for
 abbrev pub IsAtOrBefore : Candidate → Candidate → Type 0
 IsAtOrBefore c d = (c.shift < d.shift) ⊎ ((c.shift ≡ d.shift) × ((form_of c.form ≡ form_of d.form) ⊎ IsBefore (form_of c.form) (form_of d.form)))
 
+-- each is at or before all that follow it
 abbrev pub AreRising : List Candidate → Type 0
 AreRising [] = Unit {0}
 AreRising (c ∷ cs) = AllByRecursion (IsAtOrBefore c) cs × AreRising cs

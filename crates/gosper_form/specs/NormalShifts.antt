@@ -10,6 +10,7 @@ use Rattle.steps.specs.StepFaults.{EngineSteps}
 abbrev pub shift_count : Match → ℕ
 shift_count m = (m.shift + 1) * m.power
 
+-- the counts of several matches, added up
 abbrev pub shifts_counted : List Match → ℕ
 shifts_counted [] = 0
 shifts_counted (m ∷ ms) = shift_count m + shifts_counted ms

@@ -7,12 +7,15 @@ use Rattle.lin_form.specs.ListOf.{list_of}
 use Rattle.gosper_form.specs.declared.normal.Match.{Match as MatchOfCode}
 use Rattle.gosper_form.specs.declared.normal.Normal.{Normal as NormalOfCode}
 
+-- the match that one of the code stands for
 abbrev pub match_of : MatchOfCode → Match
 match_of m = record { form = form_of m.form; shift = m.shift; power = m.power }
 
+-- the matches that those of the code stand for
 abbrev pub matches_of : List MatchOfCode → List Match
 matches_of ms = map match_of ms
 
+-- the normal form that one of the code stands for
 abbrev pub normal_of : NormalOfCode → Normal
 normal_of normal = record {
   matches = matches_of normal.matches.items;

@@ -30,6 +30,7 @@ abbrev pub each_from : {A : Type 0} → (ℕ → A) → ℕ → ℕ → List A
 each_from g j zero = []
 each_from g j (suc more) = g j ∷ each_from g (suc j) more
 
+-- the items of all lists, one list after another
 abbrev pub all_of : {A : Type 0} → List (List A) → List A
 all_of [] = []
 all_of (xs ∷ rest) = xs ++ all_of rest
@@ -65,6 +66,7 @@ abbrev pub piece_sizes : ProperTerm → ℕ → List Counterpart
 piece_sizes f order = scale_size f.k_base.top (q_forms f order) ∷ scale_size f.k_base.bottom (r_forms f order)
     ∷ (all_of (each_from (top_sizes f order) 0 (suc order)) ++ (carrier_size f order ∷ []))
 
+-- an operation at no place, by its counterpart on absolute values
 abbrev pub operation_of : Counterpart → Operation (Unit {0})
 operation_of counterpart = record { place = tt {0}; counterpart = counterpart }
 

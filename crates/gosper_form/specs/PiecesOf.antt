@@ -8,12 +8,14 @@ use Rattle.term_pieces.specs.Pieces.{Top, Pieces}
 use Rattle.gosper_form.specs.declared.tops.Top.{Top as TopOfCode}
 use Rattle.gosper_form.specs.declared.pieces.Pieces.{Pieces as PiecesOfCode}
 
+-- the numerator that one of the code stands for
 abbrev pub top_of : TopOfCode → Top
 top_of top = record {
   poly = listed (each_of top.poly.list.items (λ coefficient. listed (each_of coefficient.list.items (λ whole. number whole.value))));
   factors = list_of top.factors;
 }
 
+-- the pieces that those of the code stand for
 abbrev pub pieces_held : PiecesOfCode → Pieces
 pieces_held pieces = record {
   tops = each_of pieces.tops.items top_of;

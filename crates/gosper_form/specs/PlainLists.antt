@@ -4,6 +4,7 @@ use Rattle.std.specs.List.{AllByRecursion}
 use Rattle.hypergeometric.specs.LinearForm.{Factor}
 use Rattle.hypergeometric.specs.TermFacts.{AllWithinLimits, total_power}
 
+-- the factors above and below, the divisors and the guards are those of a plain term
 pub record ArePlainLists (above below divisors guards : List Factor) : Type 0 where
   pub within : AllWithinLimits above × AllWithinLimits below × AllWithinLimits divisors × AllWithinLimits guards
   pub cancelled : AllByRecursion (λ x. AllByRecursion (λ y. y.form ≢ x.form) below) above

@@ -11,6 +11,7 @@ use Rattle.gosper_form.specs.declared.raised_forms.RaisedForm.{RaisedForm}
 abbrev pub factor_of : RaisedForm → Factor
 factor_of raised = factor_with (form_of raised.form) raised.power
 
+-- those of a list
 abbrev pub factors_of : List RaisedForm → List Factor
 factors_of forms = map factor_of forms
 

@@ -6,6 +6,7 @@ use Rattle.term_pieces.specs.ItemForms.{above_least, below_greatest, counted_but
 use Rattle.gosper_form.specs.declared.shares.Share.{Share}
 use Rattle.gosper_form.specs.declared.shares.Share.TheVariants.{AboveLeast, BelowGreatest, CountedBut, RisingUp, FallingUp, RisingDown, FallingDown, Cleared, Later, Kept}
 
+-- the factors that an item gives to a piece, by their kind
 abbrev pub share_of : Share → ℕ → Factor → List Factor
 share_of (AboveLeast j) order x = above_least order j x
 share_of (BelowGreatest j) order x = below_greatest order j x

@@ -9,6 +9,7 @@ pub record IsTopOf (top : Top) (f : ProperTerm) (order j : ℕ) : Type 0 where
   pub poly : top.poly ≡ poly_at_later_n f.poly j
   pub factors : IsProductOf top.factors (top_number f order j) (top_forms f order j)
 
+-- one for each j up to the order, and each is that of its j
 pub record AreTopsOf (tops : List Top) (f : ProperTerm) (order : ℕ) : Type 0 where
   pub count : length tops ≡ suc order
   pub each : (j : ℕ) → j ≤ order → IsTopOf (top_in tops j) f order j

@@ -9,7 +9,6 @@ ghost use Rattle.steps.specs.Answers.{Answers};
 ghost use Rattle.steps.specs.StepFaults.{step_cause};
 ghost use Rattle.term_pieces.specs.Pieces.{ArePiecesOf};
 ghost use Rattle.gosper_form.specs.PieceSteps.{degrees, piece_sizes, pieces_steps, SomeTooLarge};
-ghost use Rattle.gosper_form.specs.NormalLists.{IsFormQuotient};
 ghost use Rattle.gosper_form.specs.PiecesOf.{pieces_held};
 
 use crate::carriers::made_carrier;
@@ -59,7 +58,6 @@ pub fn pieces_of(alloc: Global, term: &Proper, order: u32) -> Result<Pieces, Ste
     ensures carrier { IfOk result (λ pieces. IsProper (pieces_held pieces).carrier) }
     ensures carrier_powers { IfOk result (λ pieces. total_power (pieces_held pieces).carrier.up + total_power (pieces_held pieces).carrier.down
         + total_power (pieces_held pieces).carrier.over ≤ 168) }
-    ensures quotient { IfOk result (λ pieces. IsFormQuotient (pieces_held pieces).q0 (pieces_held pieces).r0) }
 {
     test_degrees(alloc, term, order)?;
     match multiplied(alloc, term, order) {

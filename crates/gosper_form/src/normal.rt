@@ -1,9 +1,10 @@
 //! Gosper's normal form.
 
-ghost use Rattle.std.specs.Prelude.{◌≡◌, ◌≤◌, IfOk, IfErr};
+ghost use Rattle.std.specs.Prelude.{◌≡◌, ◌≢◌, ◌≤◌, Err, IfOk, IfErr};
 ghost use Rattle.ring_laws.specs.declared.faults.RingFault.TheVariants.{Memory};
 ghost use Rattle.steps.specs.Answers.{Answers};
 ghost use Rattle.steps.specs.StepFaults.{step_cause};
+ghost use Rattle.steps.specs.declared.faults.StepFault.TheVariants.{TooLarge};
 ghost use Rattle.term_pieces.specs.NormalForm.{Normal as NormalForm, IsNormalFormOf, HasNoMatch};
 ghost use Rattle.lin_form.specs.ListOf.{list_of};
 ghost use Rattle.gosper_form.specs.NormalCandidates.{AreMatchesOf, AreTaken};
@@ -95,6 +96,7 @@ pub fn normal_form_of(alloc: Global, q0: &FactorList, r0: &FactorList) -> Result
     // The limit is passed exactly where the steps say so, and with what they count.
     ensures steps { (normal : NormalForm) → IsNormalFormOf normal (list_of q0.now) (list_of r0.now)
         → Answers step_cause normal_of (normal_steps normal) result }
+    ensures never_too_large { result ≢ Err TooLarge }
 {
     let found = candidates(alloc, q0, r0).map_err(|fault| step_fault(fault))?;
     let taken = take_matches(alloc, q0, r0, &found)?;
@@ -132,14 +134,14 @@ fn with_lists(
     })
 }
 
-/// Gosper's normal form of the quotient q0/r0 of pieces, as `normal_form_of` gives it (A=B chapter 5). Pieces of a plain term are so.
+/// Gosper's normal form of the quotient q0/r0 of pieces, as `normal_form_of` gives it (A=B chapter 5).
 pub fn normal_form(alloc: Global, pieces: &Pieces) -> Result<Normal, StepFault>
-    requires forms { IsFormQuotient (pieces_held pieces.now).q0 (pieces_held pieces.now).r0 }
     ensures normal { IfOk result (λ normal. IsNormalFormOf (normal_of normal) (pieces_held pieces.now).q0 (pieces_held pieces.now).r0) }
     ensures no_match { IfOk result (λ normal. HasNoMatch (normal_of normal).q.factors (normal_of normal).r.factors) }
     ensures few_shifts { IfOk result (λ normal. shifts_counted (normal_of normal).matches ≤ 256) }
     ensures steps { (normal : NormalForm) → IsNormalFormOf normal (pieces_held pieces.now).q0 (pieces_held pieces.now).r0
         → Answers step_cause normal_of (normal_steps normal) result }
+    ensures never_too_large { result ≢ Err TooLarge }
 {
     normal_form_of(alloc, pieces.q0(), pieces.r0())
 }

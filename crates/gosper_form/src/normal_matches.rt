@@ -1,13 +1,13 @@
 //! What is taken from q0 and r0, candidate by candidate.
 
-ghost use Rattle.std.specs.Prelude.{◌≡◌, ◌+◌, ◌-◌, ◌≤◌, ◌<◌, ◌^◌, min, [], ◌∷◌, ◌++◌, IfOk, IfErr, OnOk};
+ghost use Rattle.std.specs.Prelude.{◌≡◌, ◌≢◌, ◌+◌, ◌-◌, ◌≤◌, ◌<◌, ◌^◌, min, [], ◌∷◌, ◌++◌, Err, IfOk, IfErr, OnOk};
 ghost use Rattle.ring_laws.specs.declared.faults.RingFault.TheVariants.{Memory};
 ghost use Rattle.hypergeometric.specs.LinearForm.{LinearForm};
 ghost use Rattle.hypergeometric.specs.FactorLists.{power_of, with_factor};
 ghost use Rattle.steps.specs.Answers.{HasCause};
 ghost use Rattle.steps.specs.Limits.{capped};
 ghost use Rattle.steps.specs.StepFaults.{step_cause};
-ghost use Rattle.steps.specs.declared.faults.StepFault.TheVariants.{Limit};
+ghost use Rattle.steps.specs.declared.faults.StepFault.TheVariants.{Limit, TooLarge};
 ghost use Rattle.steps.specs.declared.limits.LimitName.TheVariants.{MatchShifts};
 ghost use Rattle.term_pieces.specs.NormalForm.{Normal as NormalForm, IsNormalFormOf};
 ghost use Rattle.lin_form.specs.Forms.{form_of};
@@ -102,6 +102,7 @@ pub(crate) fn take_matches(
     ensures few_shifts { IfOk result (λ taken. shifts_counted (matches_of taken.matches.items) ≤ 256) }
     ensures limit { IfErr result (λ fault. (normal : NormalForm) → IsNormalFormOf normal (list_of q0.now) (list_of r0.now)
         → HasCause (normal_steps normal) (step_cause fault)) }
+    ensures never_too_large { result ≢ Err TooLarge }
 {
     let mut taken = Taken::new(alloc).map_err(|fault| step_fault(fault))?;
     let mut counted: u128 = 0;

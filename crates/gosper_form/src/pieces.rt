@@ -1,6 +1,9 @@
 //! The pieces of a term at an order.
 
 ghost use Rattle.std.specs.Prelude.{◌≡◌, ◌+◌, length};
+ghost use Rattle.lin_form.specs.ListOf.{list_of};
+ghost use Rattle.gosper_form.specs.NormalLists.{IsFormQuotient};
+ghost use Rattle.gosper_form.specs.OneProof.{form_quotient_once};
 
 use crate::tops::Top;
 use lin_form::FactorList;
@@ -15,6 +18,7 @@ pub struct Pieces {
     pub(crate) r0: FactorList,
     pub(crate) carrier: Proper,
     ghost counted: { length tops.items ≡ order + 1 },
+    ghost quotient: { IsFormQuotient (list_of q0) (list_of r0) } by { form_quotient_once (list_of q0) (list_of r0) },
 }
 
 impl Pieces {

@@ -8,8 +8,6 @@ use Rattle.gosper_form.specs.PieceSteps.{degrees, each_within, operation_of, pie
 use Rattle.gosper_form.proofs.CarrierFacts.{carrier_total}
 use Rattle.gosper_form.proofs.DegreeSteps.{all_within}
 use Rattle.gosper_form.proofs.PieceOperations.{pieces_fault}
-use Rattle.gosper_form.specs.PiecesOf.{pieces_held}
-use Rattle.gosper_form.proofs.PrimitiveQuotients.{quotient_of_pieces}
 use Rattle.gosper_form.proofs.made_pieces.pieces_of.Goals as goal
 
 -- a degree above the limit
@@ -33,8 +31,3 @@ pub returns-in-Err-clause-answers : goal.returns-in-Err-clause-answers
 returns-in-Err-clause-answers c =
     subst (λ fault. HasCause (pieces_steps (term_of c.args.term.now) c.args.order) (step_cause fault)) (sym c.step_fault.ensures.fault)
     (pieces_fault (term_of c.args.term.now) c.args.order c.in-Err.fault c.in_ok-test_degrees.ensures.answers c.in-Err.ensures.too_large)
-
--- what the forms of the quotient keep
-pub returns-in-Ok-clause-quotient : goal.returns-in-Ok-clause-quotient
-returns-in-Ok-clause-quotient c =
-    quotient_of_pieces (pieces_held c.in-Ok.pieces) (term_of c.args.term.now) c.args.order c.requires.plain c.requires.low c.in-Ok.ensures.pieces
