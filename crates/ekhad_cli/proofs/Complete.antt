@@ -1,6 +1,5 @@
 -- A text that is answered is refused only where memory or the outside fail.
 use Rattle.std.proofs.Common.{◌≡◌, ◌≤◌, ℕ, List, [], ◌∷◌, length, Some, Ok, inl, inr, ap, sym, ◌∙◌, subst, arith}
-use Rattle.hypergeometric.specs.ProperTerm.{ProperTerm}
 use Rattle.cert_text.specs.Readable.{Contents, IsTextOf}
 use Rattle.cert_text.proofs.OneDocument.{one_document}
 use Rattle.cert_checker.specs.Checks.{AreInBounds}
@@ -14,11 +13,11 @@ use Rattle.term_classes.specs.Walk.{class_of}
 use Rattle.ekhad_cli.specs.declared.words.Command.{Command}
 use Rattle.ekhad_cli.specs.declared.words.Command.TheVariants.{Gosper, Check}
 use Rattle.ekhad_cli.specs.declared.refusal.Refusal.{Refusal}
-use Rattle.ekhad_cli.specs.declared.refusal.Refusal.TheVariants.{Usage, EmptyInput, Line, LiteralTooLarge, TermTooLarge, ClaimTooLarge, Improper, TermLimit, Unbuilt, Memory, ReadFault, WriteFault}
+use Rattle.ekhad_cli.specs.declared.refusal.Refusal.TheVariants.{Usage, EmptyInput, Line, LiteralTooLarge, TermTooLarge, OrderTooLarge, ClaimTooLarge, Improper, TermLimit, OrderLimit, Unbuilt, Memory, ReadFault, WriteFault}
 use Rattle.ekhad_cli.specs.declared.refusal.Refusal.TheVariants as refusal
 use Rattle.ekhad_cli.specs.FirstRun.{IsFirstRunTerm}
 use Rattle.ekhad_cli.specs.Refusals.{IsOutside}
-use Rattle.ekhad_cli.specs.Gosper.{IsRefusedBy}
+use Rattle.ekhad_cli.specs.Gosper.{IsRefusedBy, HasFurtherTerm}
 use Rattle.ekhad_cli.specs.Commands.{most_bytes, AreWordsOf, IsCause}
 use Rattle.ekhad_cli.specs.Answerable.{IsAnswerableTerm, IsAnswerableDocument, IsAnswerable}
 use Rattle.ekhad_cli.specs.Run.{IsCaused}
@@ -38,14 +37,14 @@ not_refused r a (u, read, refused) =
     let class = a.class in
     cc
 
-not_unbuilt : {text : List ℕ} (u : Tree) (f : ProperTerm) → IsAnswerableTerm text → HasTrees a_term text (u ∷ [])
-    → (class_of u).outcome ≡ Ok f → ¬ (¬ IsFirstRunTerm f)
-not_unbuilt u f a read class unbuilt =
-    let same : u ≡ a.tree = one_tree u a.tree read a.read in
+no_further : {text : List ℕ} → IsAnswerableTerm text → ¬ HasFurtherTerm text
+no_further a t =
+    let same : t.tree ≡ a.tree = one_tree t.tree a.tree t.read a.read in
     let outcome = ap (λ t. (class_of t).outcome) same in
+    let class = t.class in
     let other = a.class in
-    let term : a.term ≡ f = cc in
-    unbuilt (subst IsFirstRunTerm term a.answered)
+    let term : a.term ≡ t.term = cc in
+    t.further (subst IsFirstRunTerm term a.answered)
 
 not_too_large : {text : List ℕ} (u : Tree) (at : ℕ) → IsAnswerableTerm text → HasTrees a_term text (u ∷ []) → ¬ IsTooLargeAt (class_of u) at
 not_too_large u at a read large = a.in_bounds at (subst (λ t. IsTooLargeAt (class_of t) at) (one_tree u a.tree read a.read) large)
@@ -65,7 +64,9 @@ term_cause text few a (TermLimit name counted) cause = absurd (not_refused _ a c
 term_cause text few a (TermTooLarge at) (short, large) = absurd (not_too_large large.0 at a large.1 large.2)
 term_cause text few a (ClaimTooLarge claim) cause = cause
 term_cause text few a (refusal.Limit limit counted) cause = absurd (omega (arith, few, cause.1))
-term_cause text few a Unbuilt (short, unbuilt) = absurd (not_unbuilt unbuilt.0 unbuilt.2.0 a unbuilt.1 unbuilt.2.1 unbuilt.2.2)
+term_cause text few a (OrderLimit name counted) (short, refused) = absurd (no_further a refused.0)
+term_cause text few a (OrderTooLarge order) (short, is, refused) = absurd (no_further a refused.0)
+term_cause text few a Unbuilt (short, unbuilt) = absurd (no_further a unbuilt.0)
 term_cause text few a Memory cause = tt
 term_cause text few a ReadFault cause = tt
 term_cause text few a WriteFault cause = tt
@@ -80,6 +81,8 @@ document_cause text few a (LiteralTooLarge at) cause = cause
 document_cause text few a (Improper reason at) cause = cause
 document_cause text few a (TermLimit name counted) cause = cause
 document_cause text few a (TermTooLarge at) cause = cause
+document_cause text few a (OrderLimit name counted) cause = cause
+document_cause text few a (OrderTooLarge order) cause = cause
 document_cause text few a (ClaimTooLarge claim) (short, is, d, read, carrier, multiplier, large) = absurd (not_a_large_claim d a read large)
 document_cause text few a (refusal.Limit limit counted) cause = absurd (omega (arith, few, cause.1))
 document_cause text few a Unbuilt cause = cause

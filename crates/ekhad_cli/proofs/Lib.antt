@@ -9,6 +9,7 @@ pub mod EqualTerms
 pub mod AnsweredTerms
 pub mod Outcomes
 pub mod Converters
+pub mod OrderAnswers
 pub mod Complete
 pub mod Accepted
 pub mod KnownAnswerable

@@ -9,7 +9,7 @@ use Rattle.ekhad_cli.specs.declared.words.Command.{Command}
 use Rattle.ekhad_cli.specs.declared.status.Status.{Status}
 use Rattle.ekhad_cli.specs.declared.status.Status.TheVariants as status
 use Rattle.ekhad_cli.specs.declared.refusal.Refusal.{Refusal}
-use Rattle.ekhad_cli.specs.declared.refusal.Refusal.TheVariants.{Usage, EmptyInput, Line, LiteralTooLarge, TermTooLarge, ClaimTooLarge, Improper, TermLimit, Unbuilt, Memory, ReadFault, WriteFault}
+use Rattle.ekhad_cli.specs.declared.refusal.Refusal.TheVariants.{Usage, EmptyInput, Line, LiteralTooLarge, TermTooLarge, OrderTooLarge, ClaimTooLarge, Improper, TermLimit, OrderLimit, Unbuilt, Memory, ReadFault, WriteFault}
 use Rattle.ekhad_cli.specs.declared.refusal.Refusal.TheVariants as refusal
 use Rattle.ekhad_cli.specs.Refusals.{status_of, IsFixed, ComesLate}
 use Rattle.ekhad_cli.specs.Commands.{AreWordsOf, most_bytes, byte_limit, IsOutput, IsCause}
@@ -79,9 +79,11 @@ comes_late (Line at) h = tt
 comes_late (LiteralTooLarge at) h = tt
 comes_late (Improper reason at) h = tt
 comes_late (TermTooLarge at) h = tt
+comes_late (OrderTooLarge order) h = tt
 comes_late (ClaimTooLarge claim) h = tt
 comes_late (refusal.Limit limit counted) h = h
 comes_late (TermLimit name counted) h = tt
+comes_late (OrderLimit name counted) h = tt
 comes_late Unbuilt h = tt
 comes_late Memory h = h
 comes_late ReadFault h = h
@@ -96,9 +98,11 @@ is_read_fault (Line at) e = cc
 is_read_fault (LiteralTooLarge at) e = cc
 is_read_fault (Improper reason at) e = cc
 is_read_fault (TermTooLarge at) e = cc
+is_read_fault (OrderTooLarge order) e = cc
 is_read_fault (ClaimTooLarge claim) e = cc
 is_read_fault (refusal.Limit limit counted) e = cc
 is_read_fault (TermLimit name counted) e = cc
+is_read_fault (OrderLimit name counted) e = cc
 is_read_fault Unbuilt e = cc
 is_read_fault Memory e = cc
 is_read_fault WriteFault e = cc

@@ -1,12 +1,13 @@
 -- The commands: their words, what each writes of the bytes that it reads, and why it refuses them.
 use Rattle.std.specs.Prelude.{codes, ◌≡◌, ◌<◌, ◌≤◌, ℕ, suc, List, [], ◌∷◌, length}
 use Rattle.steps.specs.Steps.{limit}
+use Rattle.steps.specs.Answers.{refused, too_large}
 use Rattle.steps.specs.TermFaults.{improper}
 use Rattle.cert_text.specs.Readable.{Contents, IsTextOf, IsFirstBadLine, carried}
 use Rattle.cert_checker.specs.Checks.{HasCarrier, HasMultiplier, AreInBounds}
 use Rattle.grammar.specs.Several.{a_term}
 use Rattle.grammar.specs.Reading.{IsFirstFault, empty_input, literal_too_large_at}
-use Rattle.ekhad_cli.specs.Gosper.{IsAnswerText, fault_of, IsRefusedBy, IsTermTooLarge, IsUnbuilt}
+use Rattle.ekhad_cli.specs.Gosper.{IsAnswerText, fault_of, IsRefusedBy, IsTermTooLarge, IsRefusedAtOrder, IsUnbuilt}
 use Rattle.ekhad_cli.specs.Check.{IsVerdictText}
 use Rattle.ekhad_cli.specs.Refusals.{IsOutside}
 use Rattle.ekhad_cli.specs.declared.words.Command.{Command}
@@ -16,7 +17,7 @@ use Rattle.ekhad_cli.specs.declared.status.Status.TheVariants.{Found}
 use Rattle.ekhad_cli.specs.declared.refusal.RunLimit.{RunLimit}
 use Rattle.ekhad_cli.specs.declared.refusal.RunLimit.TheVariants.{InputBytes, DocumentBytes}
 use Rattle.ekhad_cli.specs.declared.refusal.Refusal.{Refusal}
-use Rattle.ekhad_cli.specs.declared.refusal.Refusal.TheVariants.{Usage, EmptyInput, Line, LiteralTooLarge, TermTooLarge, ClaimTooLarge, Improper, TermLimit, Unbuilt, Memory, ReadFault, WriteFault}
+use Rattle.ekhad_cli.specs.declared.refusal.Refusal.TheVariants.{Usage, EmptyInput, Line, LiteralTooLarge, TermTooLarge, OrderTooLarge, ClaimTooLarge, Improper, TermLimit, OrderLimit, Unbuilt, Memory, ReadFault, WriteFault}
 use Rattle.ekhad_cli.specs.declared.refusal.Refusal.TheVariants as refusal
 
 -- the words of a command
@@ -50,6 +51,8 @@ IsCause Gosper bytes (LiteralTooLarge at) = (length bytes ≤ most_bytes Gosper)
 IsCause Gosper bytes (Improper reason at) = (length bytes ≤ most_bytes Gosper) × IsRefusedBy bytes (improper reason at)
 IsCause Gosper bytes (TermLimit name counted) = (length bytes ≤ most_bytes Gosper) × IsRefusedBy bytes (limit name counted)
 IsCause Gosper bytes (TermTooLarge at) = (length bytes ≤ most_bytes Gosper) × IsTermTooLarge bytes at
+IsCause Gosper bytes (OrderLimit name counted) = (length bytes ≤ most_bytes Gosper) × IsRefusedAtOrder bytes (refused (limit name counted))
+IsCause Gosper bytes (OrderTooLarge order) = (length bytes ≤ most_bytes Gosper) × (order ≡ 0) × IsRefusedAtOrder bytes (too_large tt)
 IsCause Gosper bytes Unbuilt = (length bytes ≤ most_bytes Gosper) × IsUnbuilt bytes
 IsCause Check bytes (Line at) = (length bytes ≤ most_bytes Check) × (line : ℕ) × IsFirstBadLine bytes line × (at ≡ carried line)
 IsCause Check bytes (ClaimTooLarge claim) = (length bytes ≤ most_bytes Check) × (claim ≡ 0)

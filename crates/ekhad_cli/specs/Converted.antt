@@ -1,11 +1,13 @@
 -- The refusal that each fault of the layers below becomes. Want of memory becomes want of memory, and nothing else does.
-use Rattle.std.specs.Prelude.{◌≡◌}
+use Rattle.std.specs.Prelude.{◌≡◌, ℕ}
 use Rattle.ek_io.specs.declared.transfer.ReadEnd.{ReadEnd}
 use Rattle.ek_io.specs.declared.transfer.ReadEnd.TheVariants as read
 use Rattle.term_text.specs.declared.fault.TextFault.{TextFault}
 use Rattle.term_text.specs.declared.fault.TextFault.TheVariants as text
 use Rattle.steps.specs.declared.faults.TermFault.{TermFault}
 use Rattle.steps.specs.declared.faults.TermFault.TheVariants as term
+use Rattle.steps.specs.declared.faults.StepFault.{StepFault}
+use Rattle.steps.specs.declared.faults.StepFault.TheVariants as step
 use Rattle.cert_text.specs.declared.faults.DocFault.{DocFault}
 use Rattle.cert_text.specs.declared.faults.DocFault.TheVariants as document
 use Rattle.cert_text.specs.declared.faults.EngineFault.{EngineFault}
@@ -40,6 +42,12 @@ refusal_of_term (term.Improper reason at) = refusal.Improper reason at
 refusal_of_term (term.Limit name counted) = refusal.TermLimit name counted
 refusal_of_term (term.TooLarge at) = refusal.TermTooLarge at
 refusal_of_term term.Memory = refusal.Memory
+
+-- of a term whose steps at an order give no normal form
+abbrev pub refusal_of_order : ℕ → StepFault → Refusal
+refusal_of_order order (step.Limit name counted) = refusal.OrderLimit name counted
+refusal_of_order order step.TooLarge = refusal.OrderTooLarge order
+refusal_of_order order step.Memory = refusal.Memory
 
 -- of a text that is no document
 abbrev pub refusal_of_document : DocFault → Refusal

@@ -1,14 +1,17 @@
 -- What `gosper` writes of the text of a term, and what refuses the text.
 use Rattle.std.specs.Prelude.{◌≡◌, ℕ, List, [], ◌∷◌, Ok, Err}
 use Rattle.steps.specs.Steps.{IsTooLargeAt}
+use Rattle.steps.specs.Answers.{Cause, HasCause}
 use Rattle.steps.specs.TermFaults.{TermRefusal}
 use Rattle.hypergeometric.specs.ProperTerm.{ProperTerm}
 use Rattle.document_text.specs.Document.{Document, document_text}
+use Rattle.term_pieces.specs.NormalForm.{Normal}
 use Rattle.grammar.specs.Tree.{Tree}
 use Rattle.grammar.specs.Several.{a_term}
 use Rattle.grammar.specs.Reading.{HasTrees, Fault, unexpected_at, unknown_name_at, unclosed_at, not_ascii_at, nesting_at}
 use Rattle.term_classes.specs.Walk.{class_of}
 use Rattle.ekhad_cli.specs.FirstRun.{IsFirstRunTerm}
+use Rattle.ekhad_cli.specs.OrderSteps.{IsNormalAt, order_steps}
 use Rattle.ekhad_cli.specs.Answer.{IsAnswerTo}
 use Rattle.ekhad_cli.specs.declared.refusal.SyntaxKind.{SyntaxKind}
 use Rattle.ekhad_cli.specs.declared.refusal.SyntaxKind.TheVariants.{Unexpected, UnknownName, Unclosed, NotAscii, Nesting}
@@ -33,7 +36,20 @@ IsRefusedBy text refusal = (tree : Tree) × HasTrees a_term text (tree ∷ []) �
 abbrev pub IsTermTooLarge : List ℕ → ℕ → Type 0
 IsTermTooLarge text at = (tree : Tree) × HasTrees a_term text (tree ∷ []) × IsTooLargeAt (class_of tree) at
 
--- the class of the tree of the text is none of the terms that are answered today
+-- The class of the tree of the text is none of the terms that are answered today. It has one normal form at the order 0, as every term has.
+pub record HasFurtherTerm (text : List ℕ) : Type 0 where
+  pub tree : Tree
+  pub read : HasTrees a_term text (tree ∷ [])
+  pub term : ProperTerm
+  pub class : (class_of tree).outcome ≡ Ok term
+  pub further : ¬ IsFirstRunTerm term
+  pub normal : Normal
+  pub is_normal : IsNormalAt normal term 0
+
+-- the steps of the order 0 have this cause of a fault: the first limit that is passed, or an operation that isn't in bounds
+abbrev pub IsRefusedAtOrder : List ℕ → Cause (Unit {0}) ⊥ → Type 0
+IsRefusedAtOrder text cause = (t : HasFurtherTerm text) × HasCause (order_steps t.term 0 t.normal) cause
+
+-- no limit is passed in them, and the term is answered by no command yet
 abbrev pub IsUnbuilt : List ℕ → Type 0
-IsUnbuilt text = (tree : Tree) × HasTrees a_term text (tree ∷ [])
-    × ((f : ProperTerm) × ((class_of tree).outcome ≡ Ok f) × (¬ IsFirstRunTerm f))
+IsUnbuilt text = (t : HasFurtherTerm text) × ((order_steps t.term 0 t.normal).outcome ≡ Ok t.normal)

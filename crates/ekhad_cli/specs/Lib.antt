@@ -1,6 +1,7 @@
 pub mod FirstRun
 pub mod Antidifference
 pub mod Answer
+pub mod OrderSteps
 pub mod Gosper
 pub mod Check
 pub mod Commands

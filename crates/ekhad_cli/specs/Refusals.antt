@@ -13,7 +13,7 @@ use Rattle.ekhad_cli.specs.declared.refusal.RunLimit.TheVariants.{InputBytes, Do
 use Rattle.ekhad_cli.specs.declared.refusal.SyntaxKind.{SyntaxKind}
 use Rattle.ekhad_cli.specs.declared.refusal.SyntaxKind.TheVariants.{Unexpected, UnknownName, Unclosed, NotAscii, Nesting}
 use Rattle.ekhad_cli.specs.declared.refusal.Refusal.{Refusal}
-use Rattle.ekhad_cli.specs.declared.refusal.Refusal.TheVariants.{Usage, EmptyInput, Line, LiteralTooLarge, TermTooLarge, ClaimTooLarge, Improper, TermLimit, Unbuilt, Memory, ReadFault, WriteFault}
+use Rattle.ekhad_cli.specs.declared.refusal.Refusal.TheVariants.{Usage, EmptyInput, Line, LiteralTooLarge, TermTooLarge, OrderTooLarge, ClaimTooLarge, Improper, TermLimit, OrderLimit, Unbuilt, Memory, ReadFault, WriteFault}
 use Rattle.ekhad_cli.specs.declared.refusal.Refusal.TheVariants as refusal
 
 -- the exit status
@@ -38,9 +38,11 @@ status_of (Line at) = status.Syntax
 status_of (LiteralTooLarge at) = status.TooLarge
 status_of (Improper reason at) = status.Improper
 status_of (TermTooLarge at) = status.TooLarge
+status_of (OrderTooLarge order) = status.TooLarge
 status_of (ClaimTooLarge claim) = status.TooLarge
 status_of (refusal.Limit limit counted) = status.Limit
 status_of (TermLimit name counted) = status.Limit
+status_of (OrderLimit name counted) = status.Limit
 status_of Unbuilt = status.Limit
 status_of Memory = status.Memory
 status_of ReadFault = status.ReadFault
@@ -72,6 +74,10 @@ kind_name Unclosed = codes "unclosed"
 kind_name NotAscii = codes "not ascii"
 kind_name Nesting = codes "nesting"
 
+-- the line of a limit on terms, or on the steps of an order
+abbrev pub limit_line : LimitName → ℕ → List ℕ
+limit_line name counted = codes "ekhad: limit: " ++ term_limit_name name ++ codes " " ++ decimal counted ++ codes "\n"
+
 -- the one line on err
 abbrev pub line_text : Refusal → List ℕ
 line_text Usage = codes "ekhad: usage\n"
@@ -81,9 +87,11 @@ line_text (Line at) = codes "ekhad: syntax: line " ++ decimal at ++ codes "\n"
 line_text (LiteralTooLarge at) = codes "ekhad: too large: literal at " ++ decimal at ++ codes "\n"
 line_text (Improper reason at) = codes "ekhad: improper: reason " ++ decimal reason ++ codes " at " ++ decimal at ++ codes "\n"
 line_text (TermTooLarge at) = codes "ekhad: too large: term at " ++ decimal at ++ codes "\n"
+line_text (OrderTooLarge order) = codes "ekhad: too large: order " ++ decimal order ++ codes "\n"
 line_text (ClaimTooLarge claim) = codes "ekhad: too large: claim " ++ decimal claim ++ codes "\n"
 line_text (refusal.Limit limit counted) = codes "ekhad: limit: " ++ limit_name limit ++ codes " " ++ decimal counted ++ codes "\n"
-line_text (TermLimit name counted) = codes "ekhad: limit: " ++ term_limit_name name ++ codes " " ++ decimal counted ++ codes "\n"
+line_text (TermLimit name counted) = limit_line name counted
+line_text (OrderLimit name counted) = limit_line name counted
 line_text Unbuilt = codes "ekhad: limit: unbuilt 1\n"
 line_text Memory = codes "ekhad: memory\n"
 line_text ReadFault = codes "ekhad: read fault\n"
@@ -96,8 +104,10 @@ IsFixed (Line at) = ⊥
 IsFixed (LiteralTooLarge at) = ⊥
 IsFixed (Improper reason at) = ⊥
 IsFixed (TermTooLarge at) = ⊥
+IsFixed (OrderTooLarge order) = ⊥
 IsFixed (ClaimTooLarge claim) = ⊥
 IsFixed (TermLimit name counted) = ⊥
+IsFixed (OrderLimit name counted) = ⊥
 IsFixed (refusal.Limit limit counted) = ⊥
 IsFixed _ = Unit {0}
 

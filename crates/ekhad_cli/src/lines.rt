@@ -3,7 +3,7 @@
 ghost use Rattle.std.specs.Prelude.{◌≡◌, ◌⊎◌, IfOk, IsOk, string_bytes};
 ghost use Rattle.std.specs.Cow.{cow_str_bytes};
 ghost use Rattle.ek_io.specs.Faults.{Rose};
-ghost use Rattle.ekhad_cli.specs.Refusals.{limit_name, term_limit_name, kind_name, line_text, status_of, IsFixed, GrewByLine};
+ghost use Rattle.ekhad_cli.specs.Refusals.{limit_name, term_limit_name, kind_name, limit_line, line_text, status_of, IsFixed, GrewByLine};
 
 use crate::refusal::{Refusal, RunLimit, SyntaxKind};
 use crate::status::Status;
@@ -60,9 +60,9 @@ fn improper_line(alloc: Global, reason: u8, at: u32) -> Result<String, AllocErro
     format!(in alloc; "ekhad: improper: reason {reason} at {at}\n")
 }
 
-// The line of a term that passes a limit.
+// The line of a term that passes a limit, or whose steps at an order do.
 fn term_limit_line(alloc: Global, name: LimitName, counted: u64) -> Result<String, AllocError>
-    ensures line { IfOk result (λ line. string_bytes line ≡ line_text (Refusal.TermLimit name counted)) }
+    ensures line { IfOk result (λ line. string_bytes line ≡ limit_line name counted) }
 {
     let limit = name_of_term_limit(name);
     format!(in alloc; "ekhad: limit: {limit} {counted}\n")
@@ -88,6 +88,9 @@ fn line_of(alloc: Global, refusal: Refusal) -> Result<CowStr<'static>, AllocErro
         Refusal::TermTooLarge { at } => {
             CowStr::Owned(format!(in alloc; "ekhad: too large: term at {at}\n")?)
         }
+        Refusal::OrderTooLarge { order } => {
+            CowStr::Owned(format!(in alloc; "ekhad: too large: order {order}\n")?)
+        }
         Refusal::ClaimTooLarge { claim } => {
             CowStr::Owned(format!(in alloc; "ekhad: too large: claim {claim}\n")?)
         }
@@ -95,7 +98,7 @@ fn line_of(alloc: Global, refusal: Refusal) -> Result<CowStr<'static>, AllocErro
             let name = name_of_limit(limit);
             CowStr::Owned(format!(in alloc; "ekhad: limit: {name} {counted}\n")?)
         }
-        Refusal::TermLimit { name, counted } => {
+        Refusal::TermLimit { name, counted } | Refusal::OrderLimit { name, counted } => {
             CowStr::Owned(term_limit_line(alloc, name, counted)?)
         }
         Refusal::Unbuilt => CowStr::Borrowed("ekhad: limit: unbuilt 1\n"),

@@ -49,6 +49,10 @@ pub enum Refusal {
     TermLimit { name: LimitName, counted: u64 },
     /// The arithmetic of the node of a term at this place is out of bounds.
     TermTooLarge { at: u32 },
+    /// A limit on the steps of an order is passed, with what was counted.
+    OrderLimit { name: LimitName, counted: u64 },
+    /// The arithmetic of the steps of this order is out of bounds.
+    OrderTooLarge { order: u32 },
     /// The arithmetic of the check of a claim, counted from 0, is out of bounds.
     ClaimTooLarge { claim: u32 },
     /// A limit is passed, with what was counted.
@@ -74,8 +78,12 @@ impl Refusal {
             Refusal::Improper { .. } => Status::Improper,
             Refusal::LiteralTooLarge { .. }
             | Refusal::TermTooLarge { .. }
+            | Refusal::OrderTooLarge { .. }
             | Refusal::ClaimTooLarge { .. } => Status::TooLarge,
-            Refusal::Limit { .. } | Refusal::TermLimit { .. } | Refusal::Unbuilt => Status::Limit,
+            Refusal::Limit { .. }
+            | Refusal::TermLimit { .. }
+            | Refusal::OrderLimit { .. }
+            | Refusal::Unbuilt => Status::Limit,
             Refusal::Memory => Status::Memory,
             Refusal::ReadFault => Status::ReadFault,
             Refusal::WriteFault => Status::WriteFault,

@@ -106,6 +106,36 @@ fn terms_that_are_not_answered(rt: HostRuntime) {
             Status::Limit,
             "ekhad: limit: factors 25\n",
         ),
+        // the steps at the order 0: each degree before all that is multiplied, then the shifts
+        ("(8*k)!^8", Status::Limit, "ekhad: limit: unbuilt 1\n"),
+        (
+            "170141183460469231731687303715884105727*(8*k)!^12",
+            Status::Limit,
+            "ekhad: limit: degree 96\n",
+        ),
+        ("(8*k)!^12", Status::Limit, "ekhad: limit: degree 96\n"),
+        ("1/(8*k)!^12", Status::Limit, "ekhad: limit: degree 96\n"),
+        ("(k+255)!/k!", Status::Limit, "ekhad: limit: unbuilt 1\n"),
+        (
+            "(k+256)!/k!",
+            Status::Limit,
+            "ekhad: limit: match shifts 257\n",
+        ),
+        (
+            "(k+300)!/k!",
+            Status::Limit,
+            "ekhad: limit: match shifts 301\n",
+        ),
+        (
+            "170141183460469231731687303715884105727^k*(2*k)!",
+            Status::TooLarge,
+            "ekhad: too large: order 0\n",
+        ),
+        (
+            "170141183460469231731687303715884105727^n*(2*n)!",
+            Status::Limit,
+            "ekhad: limit: unbuilt 1\n",
+        ),
     ];
     for (text, status, line) in rows {
         let refused = refuses(&rt, "gosper", text.as_bytes(), status, line, &WHOLE);
