@@ -1,5 +1,5 @@
 -- What the steps of an order answer: a term has one normal form there, and each refusal has its cause.
-use Rattle.std.proofs.Common.{◌≡◌, ◌≤◌, ℕ, List, [], ◌∷◌, length, Ok, refl, ap, sym, ◌∙◌, subst}
+use Rattle.std.proofs.Common.{◌≡◌, ◌≤◌, ℕ, List, [], ◌∷◌, length, Ok, refl, ap, ◌∙◌, subst}
 use Rattle.hypergeometric.specs.ProperTerm.{ProperTerm}
 use Rattle.term_pieces.specs.Pieces.{Pieces, ArePiecesOf}
 use Rattle.term_pieces.specs.NormalForm.{Normal, IsNormalFormOf}
@@ -58,10 +58,12 @@ module _ (text : List ℕ) (tree : Tree) (f : ProperTerm) (few : length text ≤
       record { tree = tree; read = read; term = f; class = class; further = further; normal = normal.0; is_normal = normal.1 }
 
   pub unbuilt_cause : ((normal : Normal) → IsNormalAt normal f 0 → (order_steps f 0 normal).outcome ≡ Ok normal) → IsCause Gosper text Unbuilt
-  unbuilt_cause passed = (few, further_term, passed further_term.normal further_term.is_normal)
+  unfolding further_term
+  unbuilt_cause passed = (few, (further_term, passed further_term.normal further_term.is_normal))
 
   pub order_cause : (fault : StepFault) → ((normal : Normal) → IsNormalAt normal f 0 → HasCause (order_steps f 0 normal) (step_cause fault))
       → IsCause Gosper text (refusal_of_order 0 fault)
-  order_cause (step.Limit name counted) cause = (few, further_term, cause further_term.normal further_term.is_normal)
-  order_cause step.TooLarge cause = (few, refl, further_term, cause further_term.normal further_term.is_normal)
+  unfolding further_term
+  order_cause (step.Limit name counted) cause = (few, (further_term, cause further_term.normal further_term.is_normal))
+  order_cause step.TooLarge cause = (few, refl, (further_term, cause further_term.normal further_term.is_normal))
   order_cause step.Memory cause = tt

@@ -2,10 +2,11 @@
 use Rattle.std.proofs.Common.{◌≡◌, ℕ, zero, suc, ◌+◌, ◌*◌, ◌≤◌, Bool, true, false, cond, List, [], ◌∷◌, ◌++◌, map, refl, ap, sym, ◌∙◌, arith, subst, mul-le-mul_right, ◌^◌}
 use Rattle.std.proofs.lemmas.Int.{ints, unsigned_abs-mul}
 use Rattle.std.specs.List.{AllByRecursion}
-use Rattle.std.specs.Prelude.{nat_eq, ℤ, pos, negsuc, ◌-ℤ◌, ◌*ℤ◌, unsigned_abs}
+use Rattle.std.specs.Prelude.{nat_eq, ℤ, pos, negsuc, ◌-ℤ◌, ◌*ℤ◌, unsigned_abs, length}
 use Rattle.hypergeometric.specs.LinearForm.{LinearForm, Factor}
 use Rattle.hypergeometric.specs.TermFacts.{IsWithinLimits, total_power}
 use Rattle.hypergeometric.specs.FactorLists.{factor_with}
+use Rattle.hypergeometric.specs.FormOrder.{IsFactor}
 use Rattle.hypergeometric.specs.PrimitiveForm.{is_zero}
 use Rattle.term_pieces.specs.Products.{form_plus, at_later_n, forms_above, forms_below}
 use Rattle.term_pieces.specs.ItemForms.{negative_part, positive_part, from_each, shifts_up_to, shifts_but, counted, at_next_k, with_k, without_k, rising_where, falling_where}
@@ -16,6 +17,11 @@ use Rattle.gosper_form.specs.declared.shares.Share.TheVariants.{AboveLeast, Belo
 pub joined_total : (xs ys : List Factor) → total_power (xs ++ ys) ≡ total_power xs + total_power ys
 joined_total [] ys = omega arith
 joined_total (x ∷ xs) ys = omega (arith, joined_total xs ys)
+
+-- each power is below 2^32
+pub total_within : (xs : List Factor) → AllByRecursion IsFactor xs → total_power xs ≤ 2 ^ 32 * length xs
+total_within [] h = omega arith
+total_within (x ∷ xs) h = omega (arith, h.0.few, total_within xs h.1)
 
 above_total : (f : LinearForm) (m p : ℕ) → total_power (forms_above f m p) ≡ m * p
 above_total f zero p = omega arith

@@ -24,10 +24,7 @@ fn is_within_limits(form: &LinForm) -> bool
 fn are_within_limits(list: &FactorList) -> bool
     ensures test { IsTrue result ↔ AllWithinLimits (list_of list.now).factors }
 {
-    for index in 0..list.len() {
-        let Some((form, _)) = list.item(index) else {
-            return true;
-        };
+    for (form, _) in list.iter() {
         if !is_within_limits(&form) {
             return false;
         }
@@ -39,10 +36,7 @@ fn are_within_limits(list: &FactorList) -> bool
 fn have_no_form_in_common(list: &FactorList, other: &FactorList) -> bool
     ensures test { IsTrue result ↔ AllByRecursion (λ x. AllByRecursion (λ y. y.form ≢ x.form) (list_of other.now).factors) (list_of list.now).factors }
 {
-    for index in 0..list.len() {
-        let Some((form, _)) = list.item(index) else {
-            return true;
-        };
+    for (form, _) in list.iter() {
         if other.power(&form) != 0 {
             return false;
         }
@@ -56,10 +50,7 @@ fn powers(list: &FactorList) -> u128
     ensures small { result ≤ 2 ^ 100 }
 {
     let mut total = 0;
-    for index in 0..list.len() {
-        let Some((_, power)) = list.item(index) else {
-            return total;
-        };
+    for (_, power) in list.iter() {
         total += u128::from(power);
     }
     total

@@ -1,18 +1,17 @@
 use Rattle.std.proofs.Common.{sym, arith, subst, true≢false}
-use Rattle.hypergeometric.specs.FactorLists.{factor_with}
 use Rattle.hypergeometric.proofs.SharedForms.{IsAbsent, absent_power}
 use Rattle.lin_form.specs.ListOf.{list_of}
 use Rattle.lin_form.specs.Forms.{form_of}
-use Rattle.proper_term.proofs.ListItems.{all_from, item_first}
+use Rattle.proper_term.proofs.ListItems.{all_from}
 use Rattle.std.specs.List.{AllByRecursion}
 use Rattle.gosper_form.proofs.AbsentForms.{absent_found}
 use Rattle.gosper_form.proofs.plain.have_no_form_in_common.Goals as goal
 
 -- one more form stands not in the other list
-pub loop-index-preserved : goal.loop-index-preserved
-loop-index-preserved c =
-    all_from (λ x. IsAbsent x.form (list_of c.args.other.now).factors) (list_of c.args.list.now).factors c.loop-index.index
-    (factor_with (form_of c.in-Some.form) c.in-Some.field-0-1) c.in-Some.ensures.item c.loop-index.invariant
+pub loop-form-preserved : goal.loop-form-preserved
+loop-form-preserved c =
+    all_from (λ x. IsAbsent x.form (list_of c.args.other.now).factors) (list_of c.args.list.now).factors _ _ _
+    c.in-Some.ensures.steps c.loop-form.invariant
     (absent_found (form_of c.in-Some.form) (list_of c.args.other.now).factors c.args.other.now.factors.each
     (omega (arith, c.power.ensures.power, c.if-power-ne0.false)))
 
@@ -26,9 +25,7 @@ returns-then-power-ne0 c = record {
       c.power.ensures.power,
       c.if-power-ne0.true,
       absent_power (form_of c.in-Some.form) (list_of c.args.other.now).factors
-          (subst (AllByRecursion (λ x. IsAbsent x.form (list_of c.args.other.now).factors))
-          (item_first (list_of c.args.list.now).factors c.loop-index.index (factor_with (form_of c.in-Some.form) c.in-Some.field-0-1) c.in-Some.ensures.item)
-          (c.loop-index.invariant.1 all)).0,
+          (subst (AllByRecursion (λ x. IsAbsent x.form (list_of c.args.other.now).factors)) c.in-Some.ensures.steps (c.loop-form.invariant.1 all)).0,
     )),
   );
 }

@@ -1,11 +1,8 @@
-use Rattle.std.proofs.Common.{◌≡◌, ◌+◌, ◌*◌, ◌≤◌, ◌^◌, drop}
+use Rattle.std.proofs.Common.{◌≡◌, ◌+◌}
 use Rattle.hypergeometric.specs.TermFacts.{total_power}
 use Rattle.lin_form.specs.ListOf.{list_of}
 use Rattle.gosper_form.proofs.plain.powers.Given as goal
 
--- the powers so far, and those of the rest of the list
-abbrev pub invariant-loop-index : goal.invariant-loop-index
-invariant-loop-index l = record {
-  so_far : l.total + total_power (drop l.index (list_of l.list).factors) ≡ total_power (list_of l.list).factors;
-  small : l.total ≤ 2 ^ 32 * l.index;
-}
+-- the powers so far, and those that are left
+abbrev pub invariant-loop-power : goal.invariant-loop-power
+invariant-loop-power l = l.total + total_power l.power-iterator ≡ total_power (list_of l.list).factors
