@@ -1,5 +1,5 @@
 -- A text that is answered is refused only where memory or the outside fail.
-use Rattle.std.proofs.Common.{◌≡◌, ◌≤◌, ℕ, List, [], ◌∷◌, length, Some, Ok, inl, inr, ap, sym, ◌∙◌, subst, arith}
+use Rattle.std.proofs.Common.{◌≡◌, ◌≤◌, ℕ, List, [], ◌∷◌, length, Some, inl, inr, ap, sym, ◌∙◌, subst, arith}
 use Rattle.cert_text.specs.Readable.{Contents, IsTextOf}
 use Rattle.cert_text.proofs.OneDocument.{one_document}
 use Rattle.cert_checker.specs.Checks.{AreInBounds}

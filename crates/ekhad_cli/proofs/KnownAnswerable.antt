@@ -1,5 +1,5 @@
 -- A text that `gosper` answers, so that the law of answerable texts speaks of some: `k`.
-use Rattle.std.proofs.Common.{◌≡◌, ℕ, zero, suc, ◌<◌, ◌^◌, [], ◌∷◌, refl, subst, arith}
+use Rattle.std.proofs.Common.{◌≡◌, ℕ, zero, suc, [], ◌∷◌, refl, subst, arith}
 use Rattle.std.specs.Prelude.{pos, codes, Ok}
 use Rattle.ring_laws.specs.Meaning.{Meaning, number, listed}
 use Rattle.poly_laws.specs.Lists.{coefficient_at}
@@ -15,8 +15,8 @@ use Rattle.grammar.proofs.TermKinds.{continues_where}
 use Rattle.steps.specs.Operations.{IsInBounds}
 use Rattle.steps.specs.Steps.{IsTooLargeAt}
 use Rattle.term_classes.specs.Walk.{class_of}
-use Rattle.ekhad_cli.specs.FirstRun.{IsSmallConstant, HasSmallCoefficients, IsFirstRunTerm}
-use Rattle.ekhad_cli.specs.Answerable.{IsAnswerableTerm, IsAnswerable}
+use Rattle.ekhad_cli.specs.FirstRun.{IsSmallConstant, IsFirstRunTerm}
+use Rattle.ekhad_cli.specs.Answerable.{IsAnswerable}
 use Rattle.ekhad_cli.specs.declared.words.Command.TheVariants.{Gosper}
 
 abbrev form_k : Meaning

@@ -52,18 +52,16 @@ module _ (f : ProperTerm) (order : ℕ) (pieces : Pieces) (are : ArePiecesOf pie
 -- a text whose term isn't answered today
 module _ (text : List ℕ) (tree : Tree) (f : ProperTerm) (few : length text ≤ most_bytes Gosper) (read : HasTrees a_term text (tree ∷ []))
     (class : (class_of tree).outcome ≡ Ok f) (further : ¬ IsFirstRunTerm f) where
-  further_term : HasFurtherTerm text
+  abbrev further_term : HasFurtherTerm text
   further_term =
       let normal = some_normal_at f 0 in
       record { tree = tree; read = read; term = f; class = class; further = further; normal = normal.0; is_normal = normal.1 }
 
   pub unbuilt_cause : ((normal : Normal) → IsNormalAt normal f 0 → (order_steps f 0 normal).outcome ≡ Ok normal) → IsCause Gosper text Unbuilt
-  unfolding further_term
   unbuilt_cause passed = (few, (further_term, passed further_term.normal further_term.is_normal))
 
   pub order_cause : (fault : StepFault) → ((normal : Normal) → IsNormalAt normal f 0 → HasCause (order_steps f 0 normal) (step_cause fault))
       → IsCause Gosper text (refusal_of_order 0 fault)
-  unfolding further_term
   order_cause (step.Limit name counted) cause = (few, (further_term, cause further_term.normal further_term.is_normal))
   order_cause step.TooLarge cause = (few, refl, (further_term, cause further_term.normal further_term.is_normal))
   order_cause step.Memory cause = tt

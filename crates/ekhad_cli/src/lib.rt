@@ -5,8 +5,8 @@
 //! `Commands.antt`, the lines of the refusals in `Refusals.antt`, what a run claims of its outputs in `Run.antt`.
 //! Read `words.rt` (the commands), `status.rt`, `refusal.rt` and `lines.rt` (how a run ends, and what it then says), `small_terms.rt`
 //! (the terms that are answered), `antidifference.rt` (the numbers of the claim), `gosper.rt` (its document), `answering.rt` (from a text to the
-//! text of its document), `orders.rt` (the limits of a term that isn't answered yet), `checking.rt` (the verdict on a document), `program.rt`, `entry.rt` (the program but for its streams);
-//! `laws.rt` has what is so of the commands together.
+//! text of its document), `orders.rt` (the limits of a term that isn't answered yet), `checking.rt` (the verdict on a document), `program.rt`,
+//! `entry.rt` (the program but for its streams); `laws.rt` has what is so of the commands together.
 #![tactic(auto)]
 
 mod answering;

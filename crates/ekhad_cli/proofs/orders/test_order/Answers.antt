@@ -1,4 +1,3 @@
-use Rattle.term_pieces.specs.NormalForm.{Normal}
 use Rattle.proper_term.specs.TermOf.{term_of}
 use Rattle.steps.specs.StepFaults.{step_cause}
 use Rattle.steps.proofs.AnswerLaws.{fault_answer, first_cause}
