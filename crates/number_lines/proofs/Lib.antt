@@ -1,0 +1,2 @@
+pub mod FractionSteps
+mod KnownFractions
