@@ -1,0 +1,2 @@
+pub mod FormWrites
+pub mod FormReads

@@ -1,0 +1,4 @@
+pub mod Forms
+pub mod SeenLaws
+pub mod FormLaws
+pub mod Views

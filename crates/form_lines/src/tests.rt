@@ -1,0 +1,46 @@
+use crate::{Forms, FormsInX};
+use spelled::Spelling;
+use std::alloc::{AllocError, Global};
+
+// Whether the text is that of an item: it is read and written again as it was.
+fn is_text<S: Spelling>(alloc: Global, spelling: &S, text: &[u8]) -> Result<bool, AllocError> {
+    let Some(item) = spelling.read(alloc, text)? else {
+        return Ok(false);
+    };
+    let mut written = String::new(alloc);
+    spelling.write(&item, &mut written)?;
+    Ok(written.as_bytes() == text)
+}
+
+#[test]
+fn forms_have_one_text_each(rt: HostRuntime) -> Result<(), AllocError> {
+    let alloc = rt.alloc();
+    let table: [(&[u8], bool, bool); 21] = [
+        (b"0", true, true),
+        (b"k+n", true, true),
+        (b"2*k-n+7", true, true),
+        (b"-64*k+64*n-1099511627776", true, true),
+        (b"65*k", false, true),
+        (b"-65*n", false, true),
+        (b"k+1099511627777", false, true),
+        (b"k+n-x+3", false, true),
+        (b"-x", false, true),
+        (b"-170141183460469231731687303715884105727*k", false, true),
+        (b"170141183460469231731687303715884105728*k", false, false),
+        (b"n+k", false, false),
+        (b"1+k", false, false),
+        (b"k+x+n", false, false),
+        (b"+k", false, false),
+        (b"1*k", false, false),
+        (b"k^1", false, false),
+        (b"k^2", false, false),
+        (b"n*k", false, false),
+        (b"k+k", false, false),
+        (b"k+0", false, false),
+    ];
+    for (text, form, in_x) in table {
+        assert_eq!(rt; is_text(alloc, &Forms, text)?, form);
+        assert_eq!(rt; is_text(alloc, &FormsInX, text)?, in_x);
+    }
+    Ok(())
+}
