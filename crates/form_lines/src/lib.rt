@@ -6,9 +6,11 @@
 #![tactic(auto)]
 
 mod forms;
+mod matches;
 mod wide_forms;
 
 pub use forms::Forms;
+pub use matches::Matches;
 pub use wide_forms::{FormInX, FormsInX};
 
 #[cfg(test)]

@@ -1,5 +1,5 @@
-use crate::{Forms, FormsInX};
-use spelled::Spelling;
+use crate::{Forms, FormsInX, Matches};
+use spelled::{Items, Spelling};
 use std::alloc::{AllocError, Global};
 
 // Whether the text is that of an item: it is read and written again as it was.
@@ -41,6 +41,32 @@ fn forms_have_one_text_each(rt: HostRuntime) -> Result<(), AllocError> {
     for (text, form, in_x) in table {
         assert_eq!(rt; is_text(alloc, &Forms, text)?, form);
         assert_eq!(rt; is_text(alloc, &FormsInX, text)?, in_x);
+    }
+    Ok(())
+}
+
+#[test]
+fn matches_have_one_text_each(rt: HostRuntime) -> Result<(), AllocError> {
+    let alloc = rt.alloc();
+    let items = Items { each: Matches };
+    let table: [(&[u8], bool); 14] = [
+        (b"-", true),
+        (b"k by 0", true),
+        (b"2*k+4 by 3 x2, k by 18446744073709551615", true),
+        (b"k by 1 x4294967295", true),
+        (b"k by 1 x4294967296", false),
+        (b"k by 1 x1", false),
+        (b"k by 1 x0", false),
+        (b"k by 18446744073709551616", false),
+        (b"k by -1", false),
+        (b"65*k by 1", false),
+        (b"k by 01", false),
+        (b"k by1", false),
+        (b"k", false),
+        (b"k by 1,k by 2", false),
+    ];
+    for (text, expected) in table {
+        assert_eq!(rt; is_text(alloc, &items, text)?, expected);
     }
     Ok(())
 }
