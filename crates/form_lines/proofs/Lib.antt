@@ -1,2 +1,4 @@
 pub mod FormWrites
 pub mod FormReads
+pub mod FactorSteps
+pub mod PrimitiveSteps

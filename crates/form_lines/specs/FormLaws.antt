@@ -104,7 +104,7 @@ form_sums f p =
 pub forms_in_x_within_line : AreWithinLine forms_in_x
 forms_in_x_within_line = seen_within_line sums forms_in_x parts_monomials form_sums (λ f. refl)
     (record { n_slope = pos 0; k_slope = pos 0; x_slope = pos 0; offset = pos 0 })
-    (record { n_slope = lit< tt; k_slope = lit< tt; x_slope = lit< tt; offset = lit< tt }) monomials_tell sums_within_line
+    (record { n_slope = lit< tt; k_slope = lit< tt; x_slope = lit< tt; offset = lit< tt }) (λ f g p q. monomials_tell f g) sums_within_line
 
 pub forms_in_x_are_items : AreItems forms_in_x
 forms_in_x_are_items = seen_are_items sums forms_in_x parts_monomials form_sums (λ f. refl) sums_are_items
@@ -118,7 +118,7 @@ in_x_tells f g e = λ i. record { n_slope = (e i).n_slope; k_slope = (e i).k_slo
 
 pub forms_within_line : AreWithinLine forms
 forms_within_line = seen_within_line forms_in_x forms without_x in_x_has (λ f. refl) (form_with (pos 0) (pos 0) (pos 0))
-    (record { n_slope = lit≤ tt; k_slope = lit≤ tt; offset = lit≤ tt }) in_x_tells forms_in_x_within_line
+    (record { n_slope = lit≤ tt; k_slope = lit≤ tt; offset = lit≤ tt }) (λ f g p q. in_x_tells f g) forms_in_x_within_line
 
 pub forms_are_items : AreItems forms
 forms_are_items = seen_are_items forms_in_x forms without_x in_x_has (λ f. refl) forms_in_x_are_items

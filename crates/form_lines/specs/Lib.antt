@@ -3,4 +3,7 @@ pub mod SeenLaws
 pub mod FormLaws
 pub mod Matches
 pub mod MatchLaws
+pub mod Factors
+pub mod FactorLaws
+pub mod Orders
 pub mod Views

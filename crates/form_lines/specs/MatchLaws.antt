@@ -53,7 +53,7 @@ pub matches_within_line : AreWithinLine matches
 matches_within_line = seen_within_line match_parts matches parts_of_match match_has (λ m. refl)
     (record { form = form_with (pos 0) (pos 0) (pos 0); shift = 0; power = 1 })
     (record { form = record { n_slope = lit≤ tt; k_slope = lit≤ tt; offset = lit≤ tt }; shift = lit< tt; some = lit≤ tt; few = lit< tt })
-    match_told parts_within_line
+    (λ m w p q. match_told m w) parts_within_line
 
 pub matches_are_items : AreItems matches
 matches_are_items = seen_are_items match_parts matches parts_of_match match_has (λ m. refl) parts_are_items

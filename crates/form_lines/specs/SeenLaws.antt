@@ -10,11 +10,11 @@ use Rattle.exact_texts.specs.Lists.{AreItems}
 -- each value of the second format has parts with the same text, and is told by its parts
 module _ {C V : Type 0} (F : Format V) (G : Format C) (parts : C → V) (has : (c : C) → G.Has c → F.Has (parts c))
     (same : (c : C) → G.text c ≡ F.text (parts c)) where
-  pub seen_within_line : (c : C) → G.Has c → ((c d : C) → parts c ≡ parts d → c ≡ d) → AreWithinLine F → AreWithinLine G
+  pub seen_within_line : (c : C) → G.Has c → ((c d : C) → G.Has c → G.Has d → parts c ≡ parts d → c ≡ d) → AreWithinLine F → AreWithinLine G
   seen_within_line c h told f = record {
     some = (c, h);
     within = λ d p. subst InOneLine (sym (same d)) (f.within (parts d) (has d p));
-    determined = λ d e p q x. told d e (f.determined (parts d) (parts e) (has d p) (has e q) (sym (same d) ∙ x ∙ same e));
+    determined = λ d e p q x. told d e p q (f.determined (parts d) (parts e) (has d p) (has e q) (sym (same d) ∙ x ∙ same e));
   }
 
   pub seen_are_items : AreItems F → AreItems G

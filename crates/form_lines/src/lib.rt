@@ -5,12 +5,16 @@
 //! Read `wide_forms.rt` (the numbers of a form in n, k and x), then `forms.rt` (forms in n and k).
 #![tactic(auto)]
 
+mod factors;
 mod forms;
 mod matches;
+mod primitive_factors;
 mod wide_forms;
 
+pub use factors::Factors;
 pub use forms::Forms;
 pub use matches::Matches;
+pub use primitive_factors::PrimitiveFactors;
 pub use wide_forms::{FormInX, FormsInX};
 
 #[cfg(test)]

@@ -1,4 +1,4 @@
-use crate::{Forms, FormsInX, Matches};
+use crate::{Factors, Forms, FormsInX, Matches, PrimitiveFactors};
 use spelled::{Items, Spelling};
 use std::alloc::{AllocError, Global};
 
@@ -67,6 +67,31 @@ fn matches_have_one_text_each(rt: HostRuntime) -> Result<(), AllocError> {
     ];
     for (text, expected) in table {
         assert_eq!(rt; is_text(alloc, &items, text)?, expected);
+    }
+    Ok(())
+}
+
+#[test]
+fn factors_have_one_text_each(rt: HostRuntime) -> Result<(), AllocError> {
+    let alloc = rt.alloc();
+    let table: [(&[u8], bool, bool); 13] = [
+        (b"-", true, true),
+        (b"n, k, k+1 x2, 2*k-1", true, true),
+        (b"k+1, k", true, false),
+        (b"-k", true, false),
+        (b"2*k+2 x3", true, false),
+        (b"0", true, false),
+        (b"1", true, true),
+        (b"2", true, false),
+        (b"k, k", false, false),
+        (b"k x4294967295", true, true),
+        (b"k x4294967296", false, false),
+        (b"k x1", false, false),
+        (b"65*k", false, false),
+    ];
+    for (text, factors, primitive) in table {
+        assert_eq!(rt; is_text(alloc, &Factors, text)?, factors);
+        assert_eq!(rt; is_text(alloc, &PrimitiveFactors, text)?, primitive);
     }
     Ok(())
 }

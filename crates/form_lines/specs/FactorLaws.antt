@@ -1,0 +1,51 @@
+-- The text of a list of factors tells the list.
+-- These are lemmas: they stand here, and not in proofs/, since the spellings of lists name them.
+use Rattle.std.specs.Prelude.{◌≡◌, ℕ, pos, codes, List, [], ◌∷◌, map}
+use Rattle.std.specs.List.{AllByRecursion}
+use Rattle.std.proofs.Common.{refl, ap, sym, ◌∙◌, arith}
+use Rattle.std.proofs.lemmas.Int.{ints}
+use Rattle.hypergeometric.specs.LinearForm.{LinearForm, Factor, FactorList}
+use Rattle.hypergeometric.specs.FormOrder.{IsFactor, IsSorted, NoFormTwice, AreFactors}
+use Rattle.document_text.specs.WellFormed.{ArePrimitiveFactors, IsFactorList}
+use Rattle.exact_texts.specs.Lines.{AreWithinLine}
+use Rattle.exact_texts.specs.Powered.{powered}
+use Rattle.exact_texts.proofs.Joined.{items_within_line}
+use Rattle.exact_texts.proofs.PoweredItems.{powered_within_line, powered_are_items}
+use Rattle.form_lines.specs.Forms.{forms}
+use Rattle.form_lines.specs.FormLaws.{forms_within_line, forms_are_items, forms_spaceless}
+use Rattle.form_lines.specs.Factors.{parts_of_factor, factor_items, factors, primitive_factors}
+use Rattle.form_lines.specs.SeenLaws.{seen_within_line}
+
+pub factor_items_within_line : AreWithinLine factor_items
+factor_items_within_line = items_within_line (powered forms) (powered_within_line forms forms_spaceless forms_within_line)
+    (powered_are_items forms forms_spaceless forms_within_line forms_are_items)
+
+pub each_has : (xs : List Factor) → AllByRecursion IsFactor xs → factor_items.Has (map parts_of_factor xs)
+each_has [] p = tt
+each_has (x ∷ xs) p = ((p.0.form, (p.0.some, p.0.few)), each_has xs p.1)
+
+pub factors_told : (xs ys : List Factor) → map parts_of_factor xs ≡ map parts_of_factor ys → xs ≡ ys
+factors_told [] [] e = refl
+factors_told [] (y ∷ ys) e = cc
+factors_told (x ∷ xs) [] e = cc
+factors_told (x ∷ xs) (y ∷ ys) e =
+    let head : parts_of_factor x ≡ parts_of_factor y = cc in
+    let tail : map parts_of_factor xs ≡ map parts_of_factor ys = cc in
+    let rest = factors_told xs ys tail in
+    λ i. record { form = (head i).0; power = (head i).1 } ∷ rest i
+
+-- lists of one scale and one text
+one_list : (l m : FactorList) → l.scale ≡ m.scale → map parts_of_factor l.factors ≡ map parts_of_factor m.factors → l ≡ m
+one_list l m s e =
+    let same = factors_told l.factors m.factors e in
+    λ i. record { scale = s i; factors = same i }
+
+pub factors_within_line : AreWithinLine factors
+factors_within_line = seen_within_line factor_items factors (λ l. map parts_of_factor l.factors) (λ l p. each_has l.factors p.1.each) (λ l. refl)
+    (record { scale = pos 1; factors = [] }) (refl, record { each = tt; distinct = tt })
+    (λ l m p q e. one_list l m (p.0 ∙ sym q.0) e) factor_items_within_line
+
+pub primitive_within_line : AreWithinLine primitive_factors
+primitive_within_line = seen_within_line factor_items primitive_factors (λ l. map parts_of_factor l.factors) (λ l p. each_has l.factors p.1.each)
+    (λ l. refl) (record { scale = pos 1; factors = [] }) (refl, record { each = tt; primitive = tt; sorted = tt })
+    (λ l m p q e. one_list l m (p.0 ∙ sym q.0) e) factor_items_within_line
