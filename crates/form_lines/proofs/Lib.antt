@@ -2,3 +2,5 @@ pub mod FormWrites
 pub mod FormReads
 pub mod FactorSteps
 pub mod PrimitiveSteps
+pub mod ListSteps
+mod KnownForms

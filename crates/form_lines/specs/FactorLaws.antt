@@ -1,19 +1,22 @@
 -- The text of a list of factors tells the list.
 -- These are lemmas: they stand here, and not in proofs/, since the spellings of lists name them.
-use Rattle.std.specs.Prelude.{◌≡◌, ℕ, pos, codes, List, [], ◌∷◌, map}
+use Rattle.std.specs.Prelude.{◌≡◌, ℕ, pos, unsigned_abs, codes, List, [], ◌∷◌, map}
 use Rattle.std.specs.List.{AllByRecursion}
-use Rattle.std.proofs.Common.{refl, ap, sym, ◌∙◌, arith}
+use Rattle.std.proofs.Common.{refl, ap, sym, ◌∙◌, arith, lit<}
 use Rattle.std.proofs.lemmas.Int.{ints}
 use Rattle.hypergeometric.specs.LinearForm.{LinearForm, Factor, FactorList}
 use Rattle.hypergeometric.specs.FormOrder.{IsFactor, IsSorted, NoFormTwice, AreFactors}
 use Rattle.document_text.specs.WellFormed.{ArePrimitiveFactors, IsFactorList}
 use Rattle.exact_texts.specs.Lines.{AreWithinLine}
+use Rattle.exact_texts.specs.Numbers.{whole_numbers}
 use Rattle.exact_texts.specs.Powered.{powered}
+use Rattle.exact_texts.proofs.Besides.{beside_within_line}
+use Rattle.exact_texts.proofs.Numerals.{wholes_within_line, wholes_are_items}
 use Rattle.exact_texts.proofs.Joined.{items_within_line}
 use Rattle.exact_texts.proofs.PoweredItems.{powered_within_line, powered_are_items}
 use Rattle.form_lines.specs.Forms.{forms}
 use Rattle.form_lines.specs.FormLaws.{forms_within_line, forms_are_items, forms_spaceless}
-use Rattle.form_lines.specs.Factors.{parts_of_factor, factor_items, factors, primitive_factors}
+use Rattle.form_lines.specs.Factors.{parts_of_factor, factor_items, factors, primitive_factors, scaled_parts, parts_of_list, factor_lists}
 use Rattle.form_lines.specs.SeenLaws.{seen_within_line}
 
 pub factor_items_within_line : AreWithinLine factor_items
@@ -49,3 +52,18 @@ pub primitive_within_line : AreWithinLine primitive_factors
 primitive_within_line = seen_within_line factor_items primitive_factors (λ l. map parts_of_factor l.factors) (λ l p. each_has l.factors p.1.each)
     (λ l. refl) (record { scale = pos 1; factors = [] }) (refl, record { each = tt; primitive = tt; sorted = tt })
     (λ l m p q e. one_list l m (p.0 ∙ sym q.0) e) factor_items_within_line
+
+scaled_within_line : AreWithinLine scaled_parts
+scaled_within_line = beside_within_line whole_numbers 59 (codes " ") primitive_factors wholes_are_items.semicolons refl wholes_within_line
+    primitive_within_line
+
+pub list_has : (l : FactorList) → IsFactorList l → scaled_parts.Has (parts_of_list l)
+list_has l p = (p.scale, (refl, p.factors))
+
+list_told : (l m : FactorList) → parts_of_list l ≡ parts_of_list m → l ≡ m
+list_told l m e = λ i. record { scale = (e i).0; factors = (e i).1.factors }
+
+pub lists_within_line : AreWithinLine factor_lists
+lists_within_line = seen_within_line scaled_parts factor_lists parts_of_list list_has (λ l. refl) (record { scale = pos 1; factors = [] })
+    (record { scale = lit< tt; not_zero = λ e. omega (arith, ap unsigned_abs e); factors = record { each = tt; primitive = tt; sorted = tt } })
+    (λ l m p q. list_told l m) scaled_within_line

@@ -1,11 +1,11 @@
 -- The formats of lists of forms with their powers.
-use Rattle.std.specs.Prelude.{◌≡◌, ℕ, codes, pos, List, map}
-use Rattle.std.specs.Fmt.{signed_decimal}
+use Rattle.std.specs.Prelude.{◌≡◌, ℕ, ℤ, codes, pos, List, map}
 use Rattle.hypergeometric.specs.LinearForm.{LinearForm, Factor, FactorList}
 use Rattle.hypergeometric.specs.FormOrder.{AreFactors}
-use Rattle.exact_texts.specs.Texts.{◌⧺◌}
 use Rattle.exact_texts.specs.Formats.{Format}
+use Rattle.exact_texts.specs.Beside.{beside}
 use Rattle.exact_texts.specs.Lists.{items_of}
+use Rattle.exact_texts.specs.Numbers.{whole_numbers}
 use Rattle.exact_texts.specs.Powered.{powered}
 use Rattle.document_text.specs.WellFormed.{ArePrimitiveFactors, IsFactorList}
 use Rattle.form_lines.specs.Forms.{forms}
@@ -26,6 +26,14 @@ factors = record { Has = λ l. (l.scale ≡ pos 1) × AreFactors l.factors; text
 abbrev pub primitive_factors : Format FactorList
 primitive_factors = record { Has = λ l. (l.scale ≡ pos 1) × ArePrimitiveFactors l.factors; text = λ l. factors.text l }
 
--- a scale other than 0, a semicolon, and primitive forms in their order
+-- a scale, a semicolon, and primitive forms in their order
+abbrev pub scaled_parts : Format (ℤ × FactorList)
+scaled_parts = beside whole_numbers (codes "; ") primitive_factors
+
+-- the scale of a list, and the list of scale 1 with the same factors
+abbrev pub parts_of_list : FactorList → ℤ × FactorList
+parts_of_list l = (l.scale, record { scale = pos 1; factors = l.factors })
+
+-- lists of primitive forms in their order, with a scale other than 0 and below 2^127 in magnitude
 abbrev pub factor_lists : Format FactorList
-factor_lists = record { Has = IsFactorList; text = λ l. signed_decimal l.scale ⧺ codes "; " ⧺ factors.text l }
+factor_lists = record { Has = IsFactorList; text = λ l. scaled_parts.text (parts_of_list l) }

@@ -1,4 +1,4 @@
-use crate::{Factors, Forms, FormsInX, Matches, PrimitiveFactors};
+use crate::{FactorLists, Factors, Forms, FormsInX, Matches, PrimitiveFactors};
 use spelled::{Items, Spelling};
 use std::alloc::{AllocError, Global};
 
@@ -92,6 +92,29 @@ fn factors_have_one_text_each(rt: HostRuntime) -> Result<(), AllocError> {
     for (text, factors, primitive) in table {
         assert_eq!(rt; is_text(alloc, &Factors, text)?, factors);
         assert_eq!(rt; is_text(alloc, &PrimitiveFactors, text)?, primitive);
+    }
+    Ok(())
+}
+
+#[test]
+fn lists_with_a_scale_have_one_text_each(rt: HostRuntime) -> Result<(), AllocError> {
+    let alloc = rt.alloc();
+    let table: [(&[u8], bool); 12] = [
+        (b"1; -", true),
+        (b"-6; n, k, k+1 x2", true),
+        (b"170141183460469231731687303715884105727; k", true),
+        (b"170141183460469231731687303715884105728; k", false),
+        (b"0; k", false),
+        (b"1; k+1, k", false),
+        (b"1; 2*k", false),
+        (b"1; k, k", false),
+        (b"1;k", false),
+        (b"1", false),
+        (b"-; -", false),
+        (b"1; -; -", false),
+    ];
+    for (text, expected) in table {
+        assert_eq!(rt; is_text(alloc, &FactorLists, text)?, expected);
     }
     Ok(())
 }
