@@ -1,10 +1,9 @@
 -- Texts of forms, lists and matches as known, and what has none.
-use Rattle.std.specs.Prelude.{◌≡◌, ◌^◌, ℤ, pos, negsuc, codes, refl, [], ◌∷◌, unsigned_abs}
+use Rattle.std.specs.Prelude.{◌≡◌, ◌^◌, pos, negsuc, codes, refl, [], ◌∷◌}
 use Rattle.std.specs.Fmt.{digits}
 use Rattle.std.proofs.Common.{arith, inl, inr}
 use Rattle.hypergeometric.specs.FormOrder.{IsBefore}
 use Rattle.std.proofs.lemmas.Int.{ints}
-use Rattle.hypergeometric.specs.LinearForm.{LinearForm}
 use Rattle.hypergeometric.specs.Forms.{form_with}
 use Rattle.hypergeometric.specs.FactorLists.{factor_with}
 use Rattle.document_text.specs.TermText.{form_text}

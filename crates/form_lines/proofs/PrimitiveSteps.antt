@@ -1,14 +1,14 @@
 -- The tests of forms and of their order.
-use Rattle.std.specs.Prelude.{◌≡◌, ◌≢◌, ◌↔◌, ℤ, pos, ◌*ℤ◌, List, [], ◌∷◌, Option, Some, None}
+use Rattle.std.specs.Prelude.{◌≡◌, ◌≢◌, ◌↔◌, ℤ, pos, ◌*ℤ◌, List, [], ◌∷◌, Some, None}
 use Rattle.std.specs.List.{AllByRecursion}
-use Rattle.std.proofs.Common.{refl, ap, sym, subst, ◌∙◌, arith, inl, inr}
+use Rattle.std.proofs.Common.{ap, sym, subst, ◌∙◌, arith, inl, inr}
 use Rattle.std.proofs.lemmas.Int.{ints}
 use Rattle.hypergeometric.specs.LinearForm.{LinearForm, Factor}
 use Rattle.hypergeometric.specs.Forms.{form_with, multiple}
 use Rattle.hypergeometric.specs.FormOrder.{IsBefore, IsPrimitive, IsSorted, NoFormTwice, AreFactors}
 use Rattle.hypergeometric.proofs.SortedForms.{all_after}
 use Rattle.document_text.specs.WellFormed.{ArePrimitiveFactors}
-use Rattle.form_lines.specs.Orders.{Follows, FollowInTurn}
+use Rattle.form_lines.specs.Orders.{FollowInTurn}
 
 once : (f : LinearForm) → multiple (pos 1) f ≡ f
 once f = λ i. form_with (one f.n_slope i) (one f.k_slope i) (one f.offset i)

@@ -1,12 +1,11 @@
 -- The text of a list of factors tells the list.
 -- These are lemmas: they stand here, and not in proofs/, since the spellings of lists name them.
-use Rattle.std.specs.Prelude.{◌≡◌, ℕ, pos, unsigned_abs, codes, List, [], ◌∷◌, map}
+use Rattle.std.specs.Prelude.{◌≡◌, pos, unsigned_abs, codes, List, [], ◌∷◌, map}
 use Rattle.std.specs.List.{AllByRecursion}
 use Rattle.std.proofs.Common.{refl, ap, sym, ◌∙◌, arith, lit<}
-use Rattle.std.proofs.lemmas.Int.{ints}
-use Rattle.hypergeometric.specs.LinearForm.{LinearForm, Factor, FactorList}
-use Rattle.hypergeometric.specs.FormOrder.{IsFactor, IsSorted, NoFormTwice, AreFactors}
-use Rattle.document_text.specs.WellFormed.{ArePrimitiveFactors, IsFactorList}
+use Rattle.hypergeometric.specs.LinearForm.{Factor, FactorList}
+use Rattle.hypergeometric.specs.FormOrder.{IsFactor}
+use Rattle.document_text.specs.WellFormed.{IsFactorList}
 use Rattle.exact_texts.specs.Lines.{AreWithinLine}
 use Rattle.exact_texts.specs.Numbers.{whole_numbers}
 use Rattle.exact_texts.specs.Powered.{powered}

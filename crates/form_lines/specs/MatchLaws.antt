@@ -1,13 +1,12 @@
 -- The text of a match tells the match.
 -- These are lemmas: they stand here, and not in proofs/, since the spelling of matches names them.
-use Rattle.std.specs.Prelude.{◌≡◌, ◌≢◌, ℕ, ◌≤◌, ◌<◌, ◌^◌, pos, codes, List, ◌++◌, length}
+use Rattle.std.specs.Prelude.{◌≡◌, ◌≢◌, ℕ, pos, codes, List, ◌++◌, length}
 use Rattle.std.specs.Fmt.{decimal}
 use Rattle.std.proofs.Common.{refl, arith, ap, lit<, lit≤, length-append}
-use Rattle.hypergeometric.specs.LinearForm.{LinearForm}
 use Rattle.hypergeometric.specs.Forms.{form_with}
 use Rattle.hypergeometric.specs.Match.{Match}
 use Rattle.document_text.specs.WellFormed.{IsMatch}
-use Rattle.exact_texts.specs.Texts.{Only, other_than}
+use Rattle.exact_texts.specs.Texts.{other_than}
 use Rattle.exact_texts.specs.Beside.{IsWithout}
 use Rattle.exact_texts.specs.Lines.{AreWithinLine}
 use Rattle.exact_texts.specs.Lists.{AreItems}

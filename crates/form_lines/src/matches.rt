@@ -41,11 +41,7 @@ impl Spelling for Matches {
         PARTS.write(&(item.0, (u128::from(item.1), item.2)), text)
     }
 
-    fn read(
-        &self,
-        alloc: Global,
-        text: &[u8],
-    ) -> Result<Option<(LinForm, u64, u32)>, AllocError> {
+    fn read(&self, alloc: Global, text: &[u8]) -> Result<Option<(LinForm, u64, u32)>, AllocError> {
         let Some((form, (shift, power))) = PARTS.read(alloc, text)? else {
             return Ok(None);
         };

@@ -1,7 +1,6 @@
-use Rattle.std.proofs.Common.{◌≡◌, ◌∙◌, ap, sym, arith, take}
+use Rattle.std.proofs.Common.{◌∙◌, ap, sym, arith}
 use Rattle.hypergeometric.specs.FactorLists.{power_of}
 use Rattle.lin_form.specs.Forms.{form_of}
-use Rattle.lin_form.specs.FactorLists.{factors_of}
 use Rattle.lin_form.specs.ListOf.{list_of}
 use Rattle.form_lines.proofs.FactorSteps.{some_power, none_before, one_more, collected}
 use Rattle.form_lines.proofs.factors.collect_factors.Goals as goal

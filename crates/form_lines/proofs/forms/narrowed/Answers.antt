@@ -1,6 +1,6 @@
-use mir.Val.{SFits, to_z, of_z}
+use mir.Val.{SFits}
 use Rattle.std.specs.Int.{w64}
-use Rattle.std.proofs.Common.{◌≡◌, ℤ, rules, ◌∙◌}
+use Rattle.std.proofs.Common.{rules, ◌∙◌}
 use Rattle.std.proofs.lemmas.Int.{to_z-of_z}
 use Rattle.form_lines.specs.Views.{parts_of}
 use Rattle.form_lines.proofs.FormReads.{narrowed_found}

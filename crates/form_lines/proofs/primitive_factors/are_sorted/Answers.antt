@@ -1,4 +1,4 @@
-use Rattle.std.proofs.Common.{◌≡◌, ◌↔◌, ◌∙◌, sym, subst, None}
+use Rattle.std.proofs.Common.{◌↔◌, ◌∙◌, sym, subst, None}
 use Rattle.hypergeometric.specs.FormOrder.{IsSorted}
 use Rattle.lin_form.specs.ListOf.{list_of}
 use Rattle.form_lines.specs.Orders.{FollowInTurn}

@@ -1,4 +1,4 @@
-use Rattle.std.proofs.Common.{◌≡◌, ◌++◌, Bool, sym, ap, subst, ◌∙◌, append-nil}
+use Rattle.std.proofs.Common.{◌++◌, sym, ap, ◌∙◌, append-nil}
 use Rattle.std.specs.Prelude.{string_bytes, []}
 use Rattle.exact_texts.specs.Sums.{sum_text}
 use Rattle.spelled.specs.Monomials.{monomial_of}

@@ -1,4 +1,3 @@
-use Rattle.form_lines.specs.FormLaws.{forms_spaceless}
 use Rattle.form_lines.specs.MatchLaws.{naturals_spaceless}
 use Rattle.form_lines.proofs.matches.MatchesSpelling.write.Goals as goal
 
