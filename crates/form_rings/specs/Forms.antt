@@ -4,6 +4,7 @@ use Rattle.ring_laws.specs.Meaning.{Meaning, number, listed}
 use Rattle.ring_laws.specs.Algebra.{Algebra, Passing}
 use Rattle.poly_laws.specs.Values.{level}
 
+-- what such a ring brings: the parts of forms, the polynomials in n, values, their bounds and leads
 pub record Forms : Type 1 where
   -- whether the variable x may occur
   pub holds_x : Bool

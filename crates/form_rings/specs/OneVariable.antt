@@ -15,6 +15,7 @@ part_in_n slope offset = listed (trimmed whole_algebra.ops (number offset ∷ nu
 abbrev pub lead_in_n : Meaning → ℤ
 lead_in_n f = number_of (coefficient_at whole_algebra.ops (items f) (length (items f) - 1))
 
+-- what the polynomials in n bring as such a ring, in which x doesn't occur
 abbrev pub forms_in_n : Forms
 forms_in_n = record {
   holds_x = false;
