@@ -2,6 +2,7 @@ pub mod Cuts
 pub mod Compared
 pub mod Formats
 pub mod Alike
+pub mod Seen
 pub mod OneLine
 pub mod FirstBad
 pub mod Joined

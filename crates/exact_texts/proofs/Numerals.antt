@@ -76,6 +76,10 @@ wholes_within_line = record {
 pub naturals_within_line : AreWithinLine naturals
 naturals_within_line = numbers_within_line (2 ^ 127) (lit≤ tt) (lit≤ tt)
 
+-- a number has no space
+pub naturals_spaceless : IsWithout 32 naturals
+naturals_spaceless n h = only_more digit_bytes (other_than 32) (decimal n) refl (only_decimal n h)
+
 no_digits : (n : ℕ) → n < 2 ^ 127 → decimal n ≢ codes "-"
 no_digits n h e = false≢true (subst (Only (among digit_bytes)) e (only_decimal n h))
 

@@ -1,5 +1,4 @@
 -- What is spelled as its parts are is within a line and can stand in lists as they do.
--- These are lemmas: they stand here, and not in proofs/, since spellings name laws that stand on them.
 use Rattle.std.specs.Prelude.{◌≡◌}
 use Rattle.std.proofs.Common.{subst, sym, ◌∙◌}
 use Rattle.exact_texts.specs.Texts.{Only, other_than, InOneLine}
@@ -7,9 +6,10 @@ use Rattle.exact_texts.specs.Formats.{Format}
 use Rattle.exact_texts.specs.Lines.{AreWithinLine}
 use Rattle.exact_texts.specs.Lists.{AreItems}
 
--- each value of the second format has parts with the same text, and is told by its parts
+-- Each value of the second format has parts with the same text, and the first format has these parts.
 module _ {C V : Type 0} (F : Format V) (G : Format C) (parts : C → V) (has : (c : C) → G.Has c → F.Has (parts c))
     (same : (c : C) → G.text c ≡ F.text (parts c)) where
+  -- where the parts tell the value, its text does
   pub seen_within_line : (c : C) → G.Has c → ((c d : C) → G.Has c → G.Has d → parts c ≡ parts d → c ≡ d) → AreWithinLine F → AreWithinLine G
   seen_within_line c h told f = record {
     some = (c, h);

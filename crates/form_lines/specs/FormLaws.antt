@@ -9,11 +9,11 @@ use Rattle.exact_texts.specs.Lines.{AreWithinLine}
 use Rattle.exact_texts.specs.Lists.{AreItems}
 use Rattle.exact_texts.specs.Sums.{Monomial, IsMonomial, sums}
 use Rattle.exact_texts.proofs.SumItems.{sums_within_line, sums_are_items, sums_spaceless}
+use Rattle.exact_texts.proofs.Seen.{seen_within_line, seen_are_items}
 use Rattle.hypergeometric.specs.LinearForm.{LinearForm}
 use Rattle.hypergeometric.specs.FormOrder.{IsForm}
 use Rattle.hypergeometric.specs.Forms.{form_with}
 use Rattle.form_lines.specs.Forms.{FormParts, HasNumbers, unless_zero, parts_monomials, forms_in_x, without_x, forms}
-use Rattle.form_lines.specs.SeenLaws.{seen_within_line, seen_are_items}
 
 -- whether a monomial has these powers
 abbrev pub is_at : ℕ → ℕ → ℕ → Monomial → Bool
@@ -33,6 +33,7 @@ itself : (i j l : ℕ) (c : ℤ) → is_at i j l (record { coefficient = c; n_po
 itself i j l c =
     ap (λ b. b && (nat_eq j j && nat_eq l l)) (eq-eqb i i refl) ∙ ap (λ b. b && nat_eq l l) (eq-eqb j j refl) ∙ eq-eqb l l refl
 
+-- what is taken from a coefficient, written unless it is 0, is the coefficient and the monomials behind it
 pub taken_of : (z : ℤ) (i j l : ℕ) (ms : List Monomial) → Apart i j l ms → taken i j l (unless_zero z i j l ++ ms) ≡ (z, ms)
 taken_of (pos zero) i j l [] p = refl
 taken_of (pos zero) i j l (m ∷ ms) p = ap (λ b. if b then (m.coefficient, ms) else (pos 0, m ∷ ms)) p
@@ -43,13 +44,15 @@ taken_of (negsuc c) i j l ms p =
     let m : Monomial = record { coefficient = negsuc c; n_power = i; k_power = j; x_power = l } in
     ap (λ b. if b then (negsuc c, ms) else (pos 0, m ∷ ms)) (itself i j l (negsuc c))
 
-peeled : (y z : ℤ) (i j l : ℕ) (ms ns : List Monomial) → Apart i j l ms → Apart i j l ns → unless_zero y i j l ++ ms ≡ unless_zero z i j l ++ ns → (y ≡ z) × (ms ≡ ns)
+peeled : (y z : ℤ) (i j l : ℕ) (ms ns : List Monomial) → Apart i j l ms → Apart i j l ns
+    → unless_zero y i j l ++ ms ≡ unless_zero z i j l ++ ns → (y ≡ z) × (ms ≡ ns)
 peeled y z i j l ms ns p q e =
     let same = sym (taken_of y i j l ms p) ∙ ap (taken i j l) e ∙ taken_of z i j l ns q in
     (ap (λ t. t.0) same, ap (λ t. t.1) same)
 
 -- a monomial with other powers stands apart
-skipped : (z : ℤ) (i j l a b c : ℕ) (ms : List Monomial) → ((d : ℤ) → is_at i j l (record { coefficient = d; n_power = a; k_power = b; x_power = c }) ≡ false)
+skipped : (z : ℤ) (i j l a b c : ℕ) (ms : List Monomial)
+    → ((d : ℤ) → is_at i j l (record { coefficient = d; n_power = a; k_power = b; x_power = c }) ≡ false)
     → Apart i j l ms → Apart i j l (unless_zero z a b c ++ ms)
 skipped (pos zero) i j l a b c ms other p = p
 skipped (pos (suc d)) i j l a b c ms other p = other (pos (suc d))
@@ -91,9 +94,12 @@ monomials_tell f g e =
 some_monomial : (z : ℤ) (i j l : ℕ) (ms : List Monomial) → unsigned_abs z < 2 ^ 127 → i < 256 → j < 256 → l < 256 → AllByRecursion IsMonomial ms
     → AllByRecursion IsMonomial (unless_zero z i j l ++ ms)
 some_monomial (pos zero) i j l ms h p q r all = all
-some_monomial (pos (suc c)) i j l ms h p q r all = (record { not_zero = λ e. omega (arith, ap unsigned_abs e); number = h; n_power = p; k_power = q; x_power = r }, all)
-some_monomial (negsuc c) i j l ms h p q r all = (record { not_zero = λ e. omega (arith, ap unsigned_abs e); number = h; n_power = p; k_power = q; x_power = r }, all)
+some_monomial (pos (suc c)) i j l ms h p q r all =
+    (record { not_zero = λ e. omega (arith, ap unsigned_abs e); number = h; n_power = p; k_power = q; x_power = r }, all)
+some_monomial (negsuc c) i j l ms h p q r all =
+    (record { not_zero = λ e. omega (arith, ap unsigned_abs e); number = h; n_power = p; k_power = q; x_power = r }, all)
 
+-- the monomials of a form within bounds have a text as a sum
 pub form_sums : (f : FormParts) → HasNumbers f → sums.Has (parts_monomials f)
 form_sums f p =
     some_monomial f.k_slope 0 1 0 (behind_k f) p.k_slope (lit< tt) (lit< tt) (lit< tt)
@@ -101,11 +107,13 @@ form_sums f p =
     (some_monomial f.x_slope 0 0 1 (behind_x f) p.x_slope (lit< tt) (lit< tt) (lit< tt)
     (some_monomial f.offset 0 0 0 [] p.offset (lit< tt) (lit< tt) (lit< tt) tt)))
 
+-- the text of a form in n, k and x stands in one line and tells the form
 pub forms_in_x_within_line : AreWithinLine forms_in_x
 forms_in_x_within_line = seen_within_line sums forms_in_x parts_monomials form_sums (λ f. refl)
     (record { n_slope = pos 0; k_slope = pos 0; x_slope = pos 0; offset = pos 0 })
     (record { n_slope = lit< tt; k_slope = lit< tt; x_slope = lit< tt; offset = lit< tt }) (λ f g p q. monomials_tell f g) sums_within_line
 
+-- forms in n, k and x can stand in a list
 pub forms_in_x_are_items : AreItems forms_in_x
 forms_in_x_are_items = seen_are_items sums forms_in_x parts_monomials form_sums (λ f. refl) sums_are_items
 
@@ -116,10 +124,12 @@ in_x_has f p = record { n_slope = omega (arith, p.n_slope); k_slope = omega (ari
 in_x_tells : (f g : LinearForm) → without_x f ≡ without_x g → f ≡ g
 in_x_tells f g e = λ i. record { n_slope = (e i).n_slope; k_slope = (e i).k_slope; offset = (e i).offset }
 
+-- the text of a form in n and k stands in one line and tells the form
 pub forms_within_line : AreWithinLine forms
 forms_within_line = seen_within_line forms_in_x forms without_x in_x_has (λ f. refl) (form_with (pos 0) (pos 0) (pos 0))
     (record { n_slope = lit≤ tt; k_slope = lit≤ tt; offset = lit≤ tt }) (λ f g p q. in_x_tells f g) forms_in_x_within_line
 
+-- forms in n and k can stand in a list
 pub forms_are_items : AreItems forms
 forms_are_items = seen_are_items forms_in_x forms without_x in_x_has (λ f. refl) forms_in_x_are_items
 

@@ -1,5 +1,4 @@
 pub mod Forms
-pub mod SeenLaws
 pub mod FormLaws
 pub mod Matches
 pub mod MatchLaws

@@ -83,7 +83,8 @@ fn write_unless_zero(
     monomial: &Monomial,
 ) -> Result<bool, AllocError>
     ensures { IfOk result (λ next. (ms : List MonomialValue) → string_bytes text.new ++ placed_sum next ms
-        ≡ string_bytes text.old ++ placed_sum is_first (unless_zero monomial.now.coefficient monomial.now.n_power monomial.now.k_power monomial.now.x_power ++ ms)) }
+        ≡ string_bytes text.old ++ placed_sum is_first
+        (unless_zero monomial.now.coefficient monomial.now.n_power monomial.now.k_power monomial.now.x_power ++ ms)) }
 {
     if monomial.coefficient == 0 {
         return Ok(is_first);

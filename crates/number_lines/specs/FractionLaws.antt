@@ -41,7 +41,8 @@ pieces_only class h f p = (number f.top p.top, go (nat_eq (unsigned_abs f.bottom
     go false = (number f.bottom p.bottom, tt)
 
 fraction_only : (class : ℕ → Bool) → Only class signed_bytes → Only class (codes "/") → (f : Fraction) → AreNumbers f → Only class (fraction_text f)
-fraction_only class h k f p = subst (Only class) (sym (pieces_joined f)) (only_joined class (codes "/") k (fraction_pieces f) (pieces_only class h f p))
+fraction_only class h k f p =
+    subst (Only class) (sym (pieces_joined f)) (only_joined class (codes "/") k (fraction_pieces f) (pieces_only class h f p))
 
 -- positive numbers of one magnitude are one
 positive_told : (y z : ℤ) → pos 0 <ℤ y → pos 0 <ℤ z → unsigned_abs y ≡ unsigned_abs z → y ≡ z
@@ -61,7 +62,8 @@ denominator_told y z h k p q e = go (nat_eq (unsigned_abs y) 1) refl (nat_eq (un
     go false s false t x = signed_decimal_determines y z h k cc
 
 -- the pieces tell the fraction
-pub pieces_tell : (f g : Fraction) → AreNumbers f → AreNumbers g → pos 0 <ℤ f.bottom → pos 0 <ℤ g.bottom → fraction_pieces f ≡ fraction_pieces g → f ≡ g
+pub pieces_tell : (f g : Fraction) → AreNumbers f → AreNumbers g → pos 0 <ℤ f.bottom → pos 0 <ℤ g.bottom
+    → fraction_pieces f ≡ fraction_pieces g → f ≡ g
 pieces_tell f g p q h k e =
     let head : signed_decimal f.top ≡ signed_decimal g.top = cc in
     let top = signed_decimal_determines f.top g.top p.top q.top head in
@@ -87,6 +89,7 @@ one_numbers = record { top = lit< tt; bottom = lit< tt }
 one_terms : IsInLowestTerms (of_whole (pos 1))
 one_terms = record { positive = omega (arith, ints); coprime = λ d p q. eq-one_of_dvd-one q }
 
+-- the text of a fraction in lowest terms stands in one line and tells the fraction
 pub fractions_within_line : AreWithinLine fractions
 fractions_within_line = record {
   some = (of_whole (pos 1), (one_numbers, one_terms));
@@ -94,6 +97,7 @@ fractions_within_line = record {
   determined = λ f g p q e. text_tells f g p.0 q.0 p.1.positive q.1.positive e;
 }
 
+-- fractions in lowest terms can stand in a list
 pub fractions_are_items : AreItems fractions
 fractions_are_items = record {
   commas = λ f p. fraction_only (other_than 44) refl refl f p.0;
@@ -107,6 +111,7 @@ are_numbers f p = record { top = p.top; bottom = p.bottom }
 lowest_of : (f : Fraction) → AreNumbers f → IsInLowestTerms f → f.top ≢ pos 0 → IsLowest f
 lowest_of f p q some = record { top = p.top; bottom = p.bottom; not_zero = some; positive = q.positive; coprime = q.coprime }
 
+-- the text of a fraction in lowest terms other than 0 stands in one line and tells the fraction
 pub nonzero_within_line : AreWithinLine nonzero_fractions
 nonzero_within_line = record {
   some = (of_whole (pos 1), lowest_of (of_whole (pos 1)) one_numbers one_terms (λ e. omega (arith, ap unsigned_abs e)));
@@ -114,6 +119,7 @@ nonzero_within_line = record {
   determined = λ f g p q e. text_tells f g (are_numbers f p) (are_numbers g q) p.positive q.positive e;
 }
 
+-- fractions in lowest terms other than 0 can stand in a list
 pub nonzero_are_items : AreItems nonzero_fractions
 nonzero_are_items = record {
   commas = λ f p. fraction_only (other_than 44) refl refl f (are_numbers f p);

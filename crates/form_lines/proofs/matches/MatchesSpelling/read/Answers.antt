@@ -3,7 +3,8 @@ use Rattle.std.specs.Option.{MatchOption}
 use Rattle.std.proofs.Common.{◌≡◌, subst, sym, ap, ◌∙◌}
 use Rattle.lin_form.specs.Forms.{form_of}
 use Rattle.form_lines.specs.Matches.{parts_of_match}
-use Rattle.form_lines.specs.MatchLaws.{naturals_spaceless, match_has}
+use Rattle.exact_texts.proofs.Numerals.{naturals_spaceless}
+use Rattle.form_lines.specs.MatchLaws.{match_has}
 use Rattle.form_lines.proofs.matches.MatchesSpelling.read.Goals as goal
 
 pub invariant_of-read : goal.invariant_of-read
