@@ -5,7 +5,21 @@ use std::alloc::Global;
 // The document with these lines for the multiplier, the scale of the carrier and Y, of the sum of k^2.
 fn squares(alloc: Global, multiplier: &str, scale: &str, y: &str) -> Result<PolyDoc, DocFault> {
     let text = format!(in alloc;
-        "ekhad 1\ncommand gosper\nterm poly k^2; scale 1; nbase 1; kbase 1; up -; down -; over -; guard -\nfound 0\nmatch -\nq 1; -\nr 1; -\na {multiplier}\nK poly 1; scale {scale}; nbase 1; kbase 1; up -; down -; over -; guard -\nY {y}\nD -\nRtop 1; -\nRbot 1; -\nrange -\nend\n"
+        "ekhad 1\n\
+         command gosper\n\
+         term poly k^2; scale 1; nbase 1; kbase 1; up -; down -; over -; guard -\n\
+         found 0\n\
+         match -\n\
+         q 1; -\n\
+         r 1; -\n\
+         a {multiplier}\n\
+         K poly 1; scale {scale}; nbase 1; kbase 1; up -; down -; over -; guard -\n\
+         Y {y}\n\
+         D -\n\
+         Rtop 1; -\n\
+         Rbot 1; -\n\
+         range -\n\
+         end\n"
     );
     match text {
         Ok(text) => read_poly_doc(alloc, text.as_bytes()),

@@ -117,7 +117,21 @@ fn document_string(alloc: Global, parts: &Parts<'_>) -> Result<String, AllocErro
     let carrier_scale = number_string(alloc, parts.carrier_scale)?;
     let multiplier = number_string(alloc, parts.multiplier)?;
     format!(in alloc;
-        "ekhad 1\ncommand gosper\nterm poly {poly}; scale {scale}; nbase 1; kbase 1; up -; down -; over -; guard -\nfound 0\nmatch -\nq 1; -\nr 1; -\na {multiplier}\nK poly 1; scale {carrier_scale}; nbase 1; kbase 1; up -; down -; over -; guard -\nY {y}\nD -\nRtop 1; -\nRbot 1; -\nrange -\nend\n"
+        "ekhad 1\n\
+         command gosper\n\
+         term poly {poly}; scale {scale}; nbase 1; kbase 1; up -; down -; over -; guard -\n\
+         found 0\n\
+         match -\n\
+         q 1; -\n\
+         r 1; -\n\
+         a {multiplier}\n\
+         K poly 1; scale {carrier_scale}; nbase 1; kbase 1; up -; down -; over -; guard -\n\
+         Y {y}\n\
+         D -\n\
+         Rtop 1; -\n\
+         Rbot 1; -\n\
+         range -\n\
+         end\n"
     )
 }
 

@@ -2,8 +2,21 @@ use crate::{DocFault, print_poly_doc, read_poly_doc};
 use std::alloc::{AllocError, Global};
 
 // The document of the sum of k^2, by hand: 6k^2 = Y(k + 1) - Y(k) for Y = (k - 1)k(2k - 1).
-const SQUARES: &[u8] =
-    b"ekhad 1\ncommand gosper\nterm poly k^2; scale 1; nbase 1; kbase 1; up -; down -; over -; guard -\nfound 0\nmatch -\nq 1; -\nr 1; -\na 6\nK poly 1; scale 1; nbase 1; kbase 1; up -; down -; over -; guard -\nY 2*k^3-3*k^2+k\nD -\nRtop 1; -\nRbot 1; -\nrange -\nend\n";
+const SQUARES: &[u8] = b"ekhad 1\n\
+      command gosper\n\
+      term poly k^2; scale 1; nbase 1; kbase 1; up -; down -; over -; guard -\n\
+      found 0\n\
+      match -\n\
+      q 1; -\n\
+      r 1; -\n\
+      a 6\n\
+      K poly 1; scale 1; nbase 1; kbase 1; up -; down -; over -; guard -\n\
+      Y 2*k^3-3*k^2+k\n\
+      D -\n\
+      Rtop 1; -\n\
+      Rbot 1; -\n\
+      range -\n\
+      end\n";
 
 // The line at fault, 0 where the text is read.
 fn line_at_fault(alloc: Global, text: &[u8]) -> Result<u32, AllocError> {
