@@ -13,3 +13,4 @@ pub mod OrderAnswers
 pub mod Complete
 pub mod Accepted
 pub mod KnownAnswerable
+pub mod KnownFurther
