@@ -26,7 +26,7 @@ module _ (a : Algebra) (l : Laws a) (p x e y : Passing a) where
   abbrev InBounds : Type 0
   InBounds = CrossInBounds a p.0 x.0 e.0 y.0
 
-  left_in_bounds : InBounds → ProductInBounds a p.0 x.0
+  pub left_in_bounds : InBounds → ProductInBounds a p.0 x.0
   left_in_bounds h =
       fits_covered_magnitude W l.ring l.magnitudes (W.sum left right) left h
       (left_part W l.ring l.magnitudes left right (l.magnitudes.of_product e y)) (l.magnitudes.of_product p x)

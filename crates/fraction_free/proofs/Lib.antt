@@ -1,4 +1,4 @@
-mod Crossing
+pub mod Crossing
 mod RowLemmas
 mod ManyRows
 mod Choices
@@ -10,3 +10,7 @@ mod BackStepAnswers
 mod BackRunAnswers
 mod Finish
 mod BasisAnswers
+pub mod KnownSteps
+pub mod KnownRuns
+pub mod KnownVectors
+mod KnownWideRuns

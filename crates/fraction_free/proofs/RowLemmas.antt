@@ -1,14 +1,13 @@
 -- One row, from what the calls on its entries answer.
-use Rattle.std.proofs.Common.{◌≡◌, ℕ, zero, suc, ◌+◌, ◌<◌, Bool, true, false, IsTrue, IsFalse, List, [], ◌∷◌, ◌++◌, map, length, get_or, take, refl, sym, ap, ◌∙◌, subst, arith, Result, Ok, Err, Option, Vec, IsErrAnd}
-use Rattle.std.proofs.lemmas.List.{length-map, map_push, take_more}
-use Rattle.std.proofs.lemmas.List.Elements.{AllZip-push}
+use Rattle.std.proofs.Common.{◌≡◌, ℕ, ◌<◌, Bool, true, false, IsTrue, IsFalse, List, [], ◌∷◌, map, length, get_or, refl, sym, ap, ◌∙◌, subst, arith, Result, Ok, Err, Vec, IsErrAnd}
+use Rattle.std.proofs.lemmas.List.{length-map}
 use Rattle.ring_laws.specs.Meaning.{Meaning}
 use Rattle.ring_laws.specs.Algebra.{Algebra, Passing, Laws, within}
 use Rattle.ring_laws.specs.Answer.{OnFault, fault_weaker}
 use Rattle.ring_laws.specs.declared.faults.RingFault.{RingFault}
 use Rattle.poly_generic.proofs.ListLemmas.{at_item}
 use Rattle.kernel_laws.specs.Rows.{entry_at}
-use Rattle.kernel_laws.specs.RowSteps.{cross, crossed, CrossInBounds, CrossingInBounds, HasQuotient, Quotients, NoQuotients, QuotientsInBounds, Divided, divided, kept}
+use Rattle.kernel_laws.specs.RowSteps.{cross, crossed, CrossInBounds, CrossingInBounds, Quotients, NoQuotients, QuotientsInBounds, Divided, divided, kept}
 use Rattle.kernel_laws.specs.Reduction.{Reduction, bare}
 use Rattle.kernel_laws.specs.Elimination.{crossed_at, Cleared, stays, changes, ClearingInBounds}
 use Rattle.kernel_laws.proofs.Crossed.{entry_of_crossed}

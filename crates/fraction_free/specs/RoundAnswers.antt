@@ -1,5 +1,5 @@
 -- What the calls on a column answer.
-use Rattle.std.specs.Prelude.{◌≡◌, ℕ, suc, ◌<◌, List, ◌∷◌, ◌++◌, map, length, IsTrue, Result, Ok, Err, Option, Some, None, Vec, All}
+use Rattle.std.specs.Prelude.{◌≡◌, ℕ, suc, ◌<◌, List, ◌∷◌, ◌++◌, map, length, IsTrue, Result, Ok, Err, Option, Some, None, All}
 use Rattle.std.specs.List.{AllZip}
 use Rattle.ring_laws.specs.Meaning.{Meaning}
 use Rattle.ring_laws.specs.Algebra.{Algebra}

@@ -14,7 +14,12 @@ mod Leads
 mod Cores
 mod PlainParts
 mod OverContents
+mod RowsInBounds
 mod KnownRows
+mod KnownBounds
+mod KnownForms
+mod KnownReductions
+mod KnownSplits
 pub mod CommonForms
 pub mod CommonNumbers
 pub mod ZeroRows

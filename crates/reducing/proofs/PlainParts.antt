@@ -58,21 +58,25 @@ pub of_all : (x core : Meaning) → IsCore x core → Quotient x core
 of_all x core h =
     subst (λ t. Quotient t core) (sym h.value_is) (quotient x core h h.value (multiple (h.value ∷ []) (h.rest ∷ []) h.reduced))
 
+-- a polynomial over its content, as a row
+pub over_content : (x : Meaning) (content : ℤ) (part : Meaning) (t : IsTimesContent x content part) → WithoutContent (t.value ∷ []) (t.rest ∷ [])
+over_content x content part t = record {
+  content = unsigned_abs content;
+  is_content = subst (λ m. IsContent (row_sizes (m ∷ [])) (unsigned_abs content)) t.value_is t.is_content;
+  not_zero = λ z. omega (arith, ints, z, t.positive);
+  times = ap (λ m. m ∷ []) (sym t.value_is ∙ t.times ∙ ap (λ m. polynomials.ops.product m (polynomials.ops.whole content)) t.rest_is
+      ∙ ap (λ z. polynomials.ops.product t.rest.0 (polynomials.ops.whole z)) whole_is);
+}
+  where
+    whole_is : content ≡ pos (unsigned_abs content)
+    whole_is = omega (arith, ints, t.positive)
+
 module _ (x : Meaning) (content : ℤ) (part : Meaning) (t : IsTimesContent x content part) (core : Meaning) (h : IsCore x core) where
   values : h.value ≡ t.value
   values = same_passing polynomials h.value t.value (sym h.value_is ∙ t.value_is)
 
   without : WithoutContent (h.value ∷ []) (t.rest ∷ [])
-  without = record {
-    content = unsigned_abs content;
-    is_content = subst (λ m. IsContent (row_sizes (m ∷ [])) (unsigned_abs content)) h.value_is t.is_content;
-    not_zero = λ z. omega (arith, ints, z, t.positive);
-    times = ap (λ m. m ∷ []) (sym h.value_is ∙ t.times ∙ ap (λ m. polynomials.ops.product m (polynomials.ops.whole content)) t.rest_is
-        ∙ ap (λ z. polynomials.ops.product t.rest.0 (polynomials.ops.whole z)) whole_is);
-  }
-    where
-      whole_is : content ≡ pos (unsigned_abs content)
-      whole_is = omega (arith, ints, t.positive)
+  without = subst (λ v. WithoutContent (v ∷ []) (t.rest ∷ [])) (sym values) (over_content x content part t)
 
   left : (old new : Row) → old ≡ h.value ∷ [] → Reduced old new → Multiple polynomials laws domain (t.rest ∷ []) new
   left old _ e (stays k) =

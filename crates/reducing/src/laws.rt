@@ -1,6 +1,6 @@
 //! What a reduction leaves, and so what the vectors of elimination have, as laws.
 
-ghost use Rattle.std.specs.Prelude.{◌≡◌, List, ℕ, All};
+ghost use Rattle.std.specs.Prelude.{◌≡◌, ◌↔◌, ⊤, List, ℕ, All};
 ghost use Rattle.ring_laws.specs.Meaning.{Meaning};
 ghost use Rattle.ring_laws.specs.Wholes.{whole_algebra};
 ghost use Rattle.poly_divide.specs.Content.{row_sizes, IsContent};
@@ -9,10 +9,32 @@ ghost use Rattle.kernel_laws.specs.Rows.{entry_at};
 ghost use Rattle.kernel_laws.specs.Kernels.{EndsAt};
 ghost use Rattle.kernel_laws.specs.Answers.{VectorOf, VectorsOf, Basis};
 ghost use Rattle.reducing.specs.WholeRows.{ArePrimitive, whole_reduction};
-ghost use Rattle.reducing.specs.PolynomialRows.{PolynomialsReduced, polynomial_reduction};
+ghost use Rattle.reducing.specs.PolynomialRows.{degree, CoreInBounds, PolynomialsInBounds, PolynomialsReduced, SplittingInBounds, polynomial_reduction};
 ghost use Rattle.reducing.specs.NothingCommon.{HasNothingCommon};
 ghost use Rattle.reducing.specs.CommonForms.{HasNoCommonForm, IsSomeNonzero};
 ghost use Rattle.reducing.specs.WhatIsLeft.{IsWhatIsLeft};
+
+use crate::domains::Reducing;
+use poly_generic::Zn;
+use ring_laws::Whole;
+
+/// Of two whole numbers neither is the better pivot, and of two polynomials in n the one of less degree is.
+pub fn weights()
+    ensures of_numbers { (x : Meaning) → ⟦<Whole as Reducing>⟧.reduction.weight x ≡ 0 }
+    ensures in_n { (f : Meaning) → ⟦<Zn as Reducing>⟧.reduction.weight f ≡ degree f }
+{}
+
+/// Each step of reducing a row of whole numbers is in bounds, and so is each of finding the parts of a number. Over polynomials in n the steps are
+/// those of finding the linear factors and of dividing by them, and for the plain part also the division by the core and the product with the
+/// content.
+pub fn reductions_in_bounds()
+    ensures of_numbers { (row : List Meaning) → ⟦<Whole as Reducing>⟧.reduction.ReductionInBounds row ↔ ⊤ }
+    ensures parts_of_numbers { (x : Meaning) → (⟦<Whole as Reducing>⟧.reduction.SplitInBounds x ↔ ⊤)
+        × (⟦<Whole as Reducing>⟧.reduction.CoreInBounds x ↔ ⊤) }
+    ensures in_n { (row : List Meaning) → ⟦<Zn as Reducing>⟧.reduction.ReductionInBounds row ↔ PolynomialsInBounds row }
+    ensures parts_in_n { (f : Meaning) → (⟦<Zn as Reducing>⟧.reduction.SplitInBounds f ↔ SplittingInBounds f)
+        × (⟦<Zn as Reducing>⟧.reduction.CoreInBounds f ↔ CoreInBounds f) }
+{}
 
 /// Of a reduced row of polynomials in which some coefficient isn't zero, no form `u*n + v` with u from 1 to 4 and no common divisor of u and
 /// v above 1 divides every entry.

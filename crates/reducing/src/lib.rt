@@ -19,7 +19,7 @@ mod whole_rows;
 pub use domains::Reducing;
 pub use laws::{
     no_content_is_left, no_form_is_left, one_row_is_left, reduced_rows_are_what_is_left,
-    vectors_have_nothing_common, whole_vectors_are_primitive,
+    reductions_in_bounds, vectors_have_nothing_common, weights, whole_vectors_are_primitive,
 };
 pub use row_divisions::divide_row;
 

@@ -58,12 +58,14 @@ one_quotients old quotients others h k =
     ∙ ap (λ c. scaled polynomials laws domain (P.whole (pos c)) others)
     (one_content (row_sizes (meant old)) k.content h.content k.is_content h.is_content))
 
-one_least : (row : List Meaning) (p q : ℕ) → IsLeast row p → IsLeast row q → p ≡ q
+-- a row has one first entry of least degree
+pub one_least : (row : List Meaning) (p q : ℕ) → IsLeast row p → IsLeast row q → p ≡ q
 one_least row p q h k = ⊎_elim (λ b. absurd (omega (arith, k.first p b h.nonzero, h.least q k.within k.nonzero)))
     (λ b. ⊎_elim (λ c. absurd (omega (arith, h.first q c k.nonzero, k.least p h.within h.nonzero))) (λ c. omega (arith, b, c)) (cases_lt q p))
     (cases_lt p q)
 
-one_forms : (row : Row) (xs ys : List Entry) → FactorsOfLeast row xs → FactorsOfLeast row ys → forms xs ≡ forms ys
+-- and the linear factors of that entry are one list of forms
+pub one_forms : (row : Row) (xs ys : List Entry) → FactorsOfLeast row xs → FactorsOfLeast row ys → forms xs ≡ forms ys
 one_forms row xs ys h k =
     one_factors (entry_at polynomials.ops (meant row) h.place) xs ys h.factors
     (subst (λ p. AreLinearFactors (entry_at polynomials.ops (meant row) p) ys) (one_least (meant row) k.place h.place k.least h.least) k.factors)

@@ -75,7 +75,8 @@ polynomial_splits x plain core h = record {
 opposite : (f : Passing polynomials) (x y : Meaning) → x ≡ f.0 → y ≡ polynomials.ops.neg f.0 → pos 0 <ℤ lead_number x → ¬ (pos 0 <ℤ lead_number y)
 opposite f x y d e h k = omega (arith, ints, h, k, ap lead_number d, ap lead_number e, lead_negative f)
 
-one_core : (x core other : Meaning) → IsCore x core → IsCore x other → core ≡ other
+-- a polynomial has one core
+pub one_core : (x core other : Meaning) → IsCore x core → IsCore x other → core ≡ other
 one_core x core other h k =
     ⊎_elim (λ d. ⊎_elim (both_same d) (first_same d) k.core_is) (λ d. ⊎_elim (last_same d) (both_negative d) k.core_is) h.core_is
   where

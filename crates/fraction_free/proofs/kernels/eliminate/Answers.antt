@@ -1,4 +1,4 @@
-use Rattle.std.proofs.Common.{◌≡◌, ℕ, suc, ◌<◌, ◌≤◌, length, map, sym, subst, arith, All, Some, None}
+use Rattle.std.proofs.Common.{◌≡◌, suc, length, map, sym, subst, arith, All}
 use Rattle.kernel_laws.specs.Pivots.{IsPivotRow}
 use Rattle.kernel_laws.specs.BackSubstitution.{BackRun}
 use Rattle.kernel_laws.specs.Answers.{AllPivots}
