@@ -8,10 +8,10 @@ use Rattle.poly_laws.specs.Values.{level}
 use Rattle.exact_texts.specs.Lines.{AreWithinLine}
 use Rattle.exact_texts.specs.Sums.{Monomial, IsMonomial}
 use Rattle.exact_texts.proofs.SumLists.{sum_determines}
-use Rattle.exact_texts.proofs.SumItems.{sums_within_line}
-use Rattle.polynomial_sums.specs.PolynomialSums.{Letter, letter_n, letter_k, letter_x, with_power, constant, falling, monomials_of, polynomials, in_n_k, in_n_k_x}
+use Rattle.exact_texts.specs.Lists.{AreItems}
+use Rattle.exact_texts.proofs.SumItems.{sums_within_line, sums_are_items}
+use Rattle.polynomial_sums.specs.PolynomialSums.{Letter, letter_n, letter_k, letter_x, with_power, constant, falling, monomials_of, polynomials, in_n, in_n_k, in_n_k_x, AreDistinct}
 use Rattle.polynomial_sums.proofs.Powers.{all_append}
-use Rattle.polynomial_sums.proofs.Letters.{AreDistinct}
 use Rattle.polynomial_sums.proofs.Telling.{monomials_told}
 
 constant_within : (z : ℤ) → unsigned_abs z < 2 ^ 127 → AllByRecursion IsMonomial (constant z)
@@ -37,7 +37,8 @@ falling_within l inner Fits d h (c ∷ cs) i small fits =
     (falling_within l inner Fits d h cs (suc i) (omega arith) (λ k. fits (suc k)))
     (set_within l i (inner c) (omega arith) (h c (fits zero)))
 
-monomials_within : (ls : List Letter) (c : Meaning) → (level (length ls)).ops.Fits c → AllByRecursion IsMonomial (monomials_of ls c)
+-- each monomial has a text
+pub monomials_within : (ls : List Letter) (c : Meaning) → (level (length ls)).ops.Fits c → AllByRecursion IsMonomial (monomials_of ls c)
 monomials_within [] c h = constant_within (number_of c) h
 monomials_within (l ∷ ls) c h = falling_within l (monomials_of ls) (level (length ls)).ops.Fits (level (length ls)).ops.nought (monomials_within ls)
     (items c) 0 (omega (arith, h.0)) h.1
@@ -60,11 +61,22 @@ polynomials_within_line ls distinct = record {
       (sum_determines (monomials_of ls p) (monomials_of ls q) (monomials_within ls p k.fits) (monomials_within ls q m.fits) e);
 }
 
+-- and it can stand in a list
+pub polynomials_are_items : (ls : List Letter) → AreItems (polynomials ls)
+polynomials_are_items ls = record {
+  commas = λ p k. sums_are_items.commas (monomials_of ls p) (monomials_within ls p k.fits);
+  semicolons = λ p k. sums_are_items.semicolons (monomials_of ls p) (monomials_within ls p k.fits);
+  not_none = λ p k. sums_are_items.not_none (monomials_of ls p) (monomials_within ls p k.fits);
+}
+
 -- the letters are distinct
-n_k_distinct : AreDistinct in_n_k
+pub n_distinct : AreDistinct in_n
+n_distinct = (tt, tt)
+
+pub n_k_distinct : AreDistinct in_n_k
 n_k_distinct = (((λ e. cc), tt), (tt, tt))
 
-n_k_x_distinct : AreDistinct in_n_k_x
+pub n_k_x_distinct : AreDistinct in_n_k_x
 n_k_x_distinct = (((λ e. cc), ((λ e. cc), tt)), (((λ e. cc), tt), (tt, tt)))
 
 pub n_k_within_line : AreWithinLine (polynomials in_n_k)

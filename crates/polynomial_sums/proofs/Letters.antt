@@ -4,18 +4,8 @@ use Rattle.std.proofs.Common.{refl}
 use Rattle.ring_laws.specs.Meaning.{Meaning, items}
 use Rattle.ring_laws.specs.Wholes.{number_of}
 use Rattle.exact_texts.specs.Sums.{Monomial}
-use Rattle.polynomial_sums.specs.PolynomialSums.{Letter, letter_n, letter_k, letter_x, power_in, with_power, constant, falling, monomials_of}
+use Rattle.polynomial_sums.specs.PolynomialSums.{Letter, letter_n, letter_k, letter_x, power_in, with_power, constant, falling, monomials_of, IsFresh}
 use Rattle.polynomial_sums.proofs.Powers.{HavePower, HaveAtLeast, all_set, all_append, more_powers, fewer, others_stay}
-
--- the letter is none of these
-abbrev pub IsFresh : Letter → List Letter → Type 0
-IsFresh l [] = Unit {0}
-IsFresh l (j ∷ ls) = (l ≢ j) × IsFresh l ls
-
--- no letter stands twice
-abbrev pub AreDistinct : List Letter → Type 0
-AreDistinct [] = Unit {0}
-AreDistinct (l ∷ ls) = IsFresh l ls × AreDistinct ls
 
 no_power : (l : Letter) (c : ℤ) → power_in l (record { coefficient = c; n_power = 0; k_power = 0; x_power = 0 }) ≡ 0
 no_power letter_n c = refl

@@ -8,9 +8,9 @@ use Rattle.poly_laws.specs.PolyAlgebra.{every_passes, is_empty}
 use Rattle.poly_laws.specs.Lists.{is_trimmed}
 use Rattle.poly_laws.specs.Values.{level}
 use Rattle.exact_texts.specs.Sums.{Monomial}
-use Rattle.polynomial_sums.specs.PolynomialSums.{Letter, with_power, constant, falling, monomials_of}
+use Rattle.polynomial_sums.specs.PolynomialSums.{Letter, with_power, constant, falling, monomials_of, IsFresh, AreDistinct}
 use Rattle.polynomial_sums.proofs.Powers.{all_set, told_by_power, parted_by_power}
-use Rattle.polynomial_sums.proofs.Letters.{IsFresh, AreDistinct, monomials_apart, falling_from}
+use Rattle.polynomial_sums.proofs.Letters.{monomials_apart, falling_from}
 
 coefficient_in : List Monomial → ℤ
 coefficient_in [] = pos 0
@@ -71,7 +71,7 @@ module _ (l : Letter) (ls : List Letter) (fresh : IsFresh l ls) (inner : AreTold
   back_empty (x ∷ xs) ys e = absurd cc
 
   -- some monomials are there
-  not_none : (c : Meaning) (cs : List Meaning) (i : ℕ) → Passes (c ∷ cs) → Trimmed (c ∷ cs) → these (c ∷ cs) i ≢ []
+  pub not_none : (c : Meaning) (cs : List Meaning) (i : ℕ) → Passes (c ∷ cs) → Trimmed (c ∷ cs) → these (c ∷ cs) i ≢ []
   not_none c [] i p t e =
       let empty = map_empty (with_power l i) (monomials_of ls c) e in
       let nought = inner.none c (first_passes c [] p).0 empty in

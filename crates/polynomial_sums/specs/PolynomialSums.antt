@@ -1,6 +1,7 @@
 -- The monomials of a polynomial, by falling powers of its letters, and its text.
-use Rattle.std.specs.Prelude.{ℕ, zero, suc, IsTrue, ℤ, pos, negsuc, List, [], ◌∷◌, ◌++◌, map, length}
+use Rattle.std.specs.Prelude.{◌≡◌, ◌≢◌, ℕ, zero, suc, ◌+◌, IsTrue, ℤ, pos, negsuc, List, [], ◌∷◌, ◌++◌, map, length}
 use Rattle.ring_laws.specs.Meaning.{Meaning, items}
+use Rattle.ring_laws.specs.Algebra.{Algebra}
 use Rattle.ring_laws.specs.Wholes.{number_of}
 use Rattle.poly_laws.specs.Values.{level}
 use Rattle.exact_texts.specs.Formats.{Format}
@@ -49,6 +50,10 @@ pub record IsPolynomial (letters : ℕ) (p : Meaning) : Type 0 where
 abbrev pub polynomials : List Letter → Format Meaning
 polynomials ls = record { Has = IsPolynomial (length ls); text = λ p. sum_text (monomials_of ls p) }
 
+-- in n, by falling power
+abbrev pub in_n : List Letter
+in_n = letter_n ∷ []
+
 -- in n and k: by falling power of k, then of n
 abbrev pub in_n_k : List Letter
 in_n_k = letter_k ∷ letter_n ∷ []
@@ -56,3 +61,34 @@ in_n_k = letter_k ∷ letter_n ∷ []
 -- in n, k and x: by falling power of k, then of n, then of x
 abbrev pub in_n_k_x : List Letter
 in_n_k_x = letter_k ∷ letter_n ∷ letter_x ∷ []
+
+-- the letter is none of these
+abbrev pub IsFresh : Letter → List Letter → Type 0
+IsFresh l [] = Unit {0}
+IsFresh l (j ∷ ls) = (l ≢ j) × IsFresh l ls
+
+-- no letter stands twice
+abbrev pub AreDistinct : List Letter → Type 0
+AreDistinct [] = Unit {0}
+AreDistinct (l ∷ ls) = IsFresh l ls × AreDistinct ls
+
+-- the monomial has none of these letters
+abbrev pub IsFree : List Letter → Monomial → Type 0
+IsFree [] m = Unit {0}
+IsFree (l ∷ ls) m = (power_in l m ≡ 0) × IsFree ls m
+
+-- a monomial times the powers of another
+abbrev pub times : Monomial → Monomial → Monomial
+times powers m = record {
+  coefficient = m.coefficient;
+  n_power = powers.n_power + m.n_power;
+  k_power = powers.k_power + m.k_power;
+  x_power = powers.x_power + m.x_power;
+}
+
+-- a ring whose members are the polynomials in so many letters, with the same test for zero, and where what fits is within bounds
+pub record HasLetters (letters : ℕ) (a : Algebra) : Type 0 where
+  pub nought : a.ops.nought ≡ (level letters).ops.nought
+  pub is_nought : (m : Meaning) → a.ops.is_nought m ≡ (level letters).ops.is_nought m
+  pub passes : (m : Meaning) → a.passes m ≡ (level letters).passes m
+  pub fits : (m : Meaning) → a.ops.Fits m → (level letters).ops.Fits m

@@ -1,0 +1,21 @@
+//! Polynomials as texts within a line: sums of monomials, by falling powers.
+//!
+//! Input: a polynomial or a text. Output: the one text of the polynomial; the polynomial of the text.
+//! Which polynomials have a text, and which, is in polynomial_sums' `specs/PolynomialSums.antt`; what a format and a spelling are, in
+//! `exact_texts` and `spelled`.
+//! Read `letters.rt` (letters, and the lists of them that polynomials are written in), `rings.rt` (the trait of polynomials of any number of
+//! levels), `wholes.rt` and `polys.rt` (its instances), then `polynomials.rt` (the spelling).
+#![tactic(auto)]
+
+mod letters;
+mod polynomials;
+mod polys;
+mod rings;
+mod wholes;
+
+pub use letters::{Letter, Letters};
+pub use polynomials::{POLYNOMIALS_IN_N, POLYNOMIALS_IN_N_AND_K, Polynomials};
+pub use rings::PolynomialRing;
+
+#[cfg(test)]
+mod tests;
