@@ -1,0 +1,2 @@
+mod PowerCuts
+mod PushSteps

@@ -1,13 +1,13 @@
 //! Polynomials over polynomials, with one letter more.
 
-ghost use Rattle.std.specs.Prelude.{◌≡◌, ◌≤◌, ◌++◌, suc, ℕ, List, map, length, OnOk, IfOk, IfSome, MatchOption};
+ghost use Rattle.std.specs.Prelude.{◌≡◌, ◌≤◌, ◌++◌, ◌∷◌, suc, ℕ, List, map, length, OnOk, IfOk, MatchOption};
 ghost use Rattle.ring_laws.specs.Meaning.{Meaning};
-ghost use Rattle.poly_laws.specs.Lists.{is_trimmed};
-ghost use Rattle.polynomial_sums.specs.PolynomialSums.{falling, monomials_of, times, power_in, AreDistinct, IsFree, IsPolynomial};
+ghost use Rattle.polynomial_sums.specs.PolynomialSums.{falling, monomials_of, times, AreDistinct, IsFree};
 ghost use Rattle.polynomial_sums.proofs.Powers.{HavePower, HaveAtLeast};
 ghost use Rattle.polynomial_sums.proofs.Levels.{poly_has_letters};
 ghost use Rattle.spelled.specs.Monomials.{MonomialValue, monomial_of};
 ghost use Rattle.polynomial_lines.specs.Letters.{letter_of};
+ghost use Rattle.polynomial_lines.specs.Coefficients.{AreCoefficients};
 
 use crate::letters::Letter;
 use crate::rings::PolynomialRing;
@@ -23,7 +23,14 @@ fn push_falling<R: PolynomialRing>(
     inner: &[Letter],
     powers: &Monomial,
     monomials: &mut Vec<Monomial>,
-) -> Result<(), AllocError> {
+) -> Result<(), AllocError>
+    requires short { length coefficients.now ≤ 256 }
+    requires one_each { length inner.now ≡ R.levels }
+    requires distinct { AreDistinct (letter_of letter ∷ map letter_of inner.now) }
+    requires others { IsFree (letter_of letter ∷ map letter_of inner.now) (monomial_of powers.now) }
+    ensures pushed { OnOk result (map monomial_of monomials.new.items ≡ map monomial_of monomials.old.items
+        ++ map (times (monomial_of powers.now)) (falling (letter_of letter) (monomials_of (map letter_of inner.now)) (map R.meaning coefficients.now) 0)) }
+{
     let mut power = coefficients.len();
     while power > 0 {
         power -= 1;
@@ -34,7 +41,11 @@ fn push_falling<R: PolynomialRing>(
 }
 
 // The monomials in front of the last ones that have a power of a letter, and these.
-fn cut_at_power(monomials: &[Monomial], letter: Letter, power: u32) -> (&[Monomial], &[Monomial]) {
+fn cut_at_power(monomials: &[Monomial], letter: Letter, power: u32) -> (&[Monomial], &[Monomial])
+    ensures cut { (xs ys : List MonomialValue) → HaveAtLeast (letter_of letter) (suc power) xs → HavePower (letter_of letter) power ys
+        → map monomial_of monomials.now ≡ xs ++ ys → (map monomial_of result.0.now ≡ xs) × (map monomial_of result.1.now ≡ ys) }
+    ensures shorter { length result.0.now ≤ length monomials.now }
+{
     let mut end = monomials.len();
     while end > 0 && letter.power_in(&monomials[end - 1]) == power {
         end -= 1;
@@ -48,7 +59,14 @@ fn read_falling<R: PolynomialRing>(
     letter: Letter,
     inner: &[Letter],
     monomials: &[Monomial],
-) -> Result<Option<Vec<R>>, AllocError> {
+) -> Result<Option<Vec<R>>, AllocError>
+    requires one_each { length inner.now ≡ R.levels }
+    requires distinct { AreDistinct (letter_of letter ∷ map letter_of inner.now) }
+    ensures read { (powers : MonomialValue) (cs : List Meaning) → AreCoefficients R.levels cs → length cs ≤ 256
+        → IsFree (letter_of letter ∷ map letter_of inner.now) powers
+        → map monomial_of monomials.now ≡ map (times powers) (falling (letter_of letter) (monomials_of (map letter_of inner.now)) cs 0)
+        → IfOk result (λ found. MatchOption found ⊥ (λ list. map R.meaning list.items ≡ cs)) }
+{
     let mut coefficients = Vec::new(alloc);
     let mut rest = monomials;
     while !rest.is_empty() {
