@@ -1,2 +1,3 @@
 mod PowerCuts
 mod PushSteps
+mod ReadSteps

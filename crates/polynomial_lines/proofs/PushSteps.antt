@@ -2,7 +2,7 @@
 use Rattle.std.specs.Prelude.{◌≡◌, ℕ, suc, ◌+◌, ◌-◌, ◌<◌, List, [], ◌∷◌, ◌++◌, map, length, drop}
 use Rattle.std.proofs.Common.{ap, sym, ◌∙◌, subst, arith, append_assoc, get_or}
 use Rattle.std.proofs.Math.Seq.{drop-cons}
-use Rattle.ring_laws.specs.Meaning.{Meaning}
+use Rattle.ring_laws.specs.Meaning.{Meaning, listed, parted-joined}
 use Rattle.polynomial_sums.specs.PolynomialSums.{Letter, power_in, with_power, falling, monomials_of, times, IsFresh}
 use Rattle.polynomial_sums.proofs.Placing.{falling_times}
 use Rattle.spelled.specs.Monomials.{MonomialValue}
@@ -33,3 +33,11 @@ module _ {T : Type 0} (meaning : T → Meaning) (l : Letter) (ls : List Letter) 
       ∙ ap (λ t. old ++ t) (ap (λ j. from_power xs j ++ last) up
       ∙ ap (λ y. from_power xs (suc q) ++ map (times (with_power l q powers)) (monomials_of ls (meaning y))) is
       ∙ sym (from_here xs q x h))
+
+-- the monomials of all coefficients are those of the polynomial
+pub of_all : {T : Type 0} (meaning : T → Meaning) (l : Letter) (ls letters : List Letter) (xs : List T) (p : Meaning) → letters ≡ l ∷ ls
+    → listed (map meaning xs) ≡ p
+    → falling l (monomials_of ls) (map meaning xs) 0 ≡ monomials_of letters p
+of_all meaning l ls letters xs p e f =
+    ap (λ t. falling l (monomials_of ls) t 0) (sym (parted-joined (map meaning xs))) ∙ ap (monomials_of (l ∷ ls)) f
+    ∙ ap (λ t. monomials_of t p) (sym e)
