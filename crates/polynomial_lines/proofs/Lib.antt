@@ -1,3 +1,4 @@
 mod PowerCuts
 mod PushSteps
 mod ReadSteps
+mod WholePolynomials

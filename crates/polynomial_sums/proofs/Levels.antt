@@ -17,7 +17,7 @@ module _ (n : ℕ) (a : Algebra) (h : HasLetters n a) where
   each_passes [] = refl
   each_passes (x ∷ xs) = λ i. h.passes x i && each_passes xs i
 
-  trimmed_alike : (xs : List Meaning) → is_trimmed a.ops xs ≡ is_trimmed (level n).ops xs
+  pub trimmed_alike : (xs : List Meaning) → is_trimmed a.ops xs ≡ is_trimmed (level n).ops xs
   trimmed_alike [] = refl
   trimmed_alike (x ∷ []) = ap not (h.is_nought x)
   trimmed_alike (x ∷ y ∷ ys) = trimmed_alike (y ∷ ys)
