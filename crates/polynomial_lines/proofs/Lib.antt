@@ -2,3 +2,4 @@ mod PowerCuts
 mod PushSteps
 mod ReadSteps
 mod WholePolynomials
+mod SpellingSteps
