@@ -3,3 +3,5 @@ mod PushSteps
 mod ReadSteps
 mod WholePolynomials
 mod SpellingSteps
+mod DocumentTexts
+mod KnownCoefficients

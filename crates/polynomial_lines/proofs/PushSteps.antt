@@ -1,6 +1,6 @@
 -- The steps of writing the monomials of a polynomial.
-use Rattle.std.specs.Prelude.{◌≡◌, ℕ, suc, ◌+◌, ◌-◌, ◌<◌, List, [], ◌∷◌, ◌++◌, map, length, drop}
-use Rattle.std.proofs.Common.{ap, sym, ◌∙◌, subst, arith, append_assoc, get_or}
+use Rattle.std.specs.Prelude.{◌≡◌, ℕ, suc, ◌-◌, ◌<◌, List, ◌∷◌, ◌++◌, map, length, drop}
+use Rattle.std.proofs.Common.{ap, sym, ◌∙◌, arith, append_assoc, get_or}
 use Rattle.std.proofs.Math.Seq.{drop-cons}
 use Rattle.ring_laws.specs.Meaning.{Meaning, listed, parted-joined}
 use Rattle.polynomial_sums.specs.PolynomialSums.{Letter, power_in, with_power, falling, monomials_of, times, IsFresh}

@@ -1,6 +1,5 @@
 -- The steps of reading the coefficients of a polynomial from its monomials.
-use Rattle.std.specs.Prelude.{◌≡◌, ◌≢◌, ℕ, zero, suc, ◌+◌, ◌≤◌, IsTrue, List, [], ◌∷◌, ◌++◌, map, length}
-use Rattle.std.specs.List.{AllByRecursion}
+use Rattle.std.specs.Prelude.{◌≡◌, ◌≢◌, ℕ, suc, ◌+◌, ◌≤◌, IsTrue, List, [], ◌∷◌, ◌++◌, map, length}
 use Rattle.std.proofs.Common.{refl, ap, sym, ◌∙◌, subst, arith, append_assoc, append-nil}
 use Rattle.std.proofs.lemmas.List.{map-append, length-append}
 use Rattle.std.proofs.lemmas.Bool.{and_parts}
@@ -8,7 +7,7 @@ use Rattle.ring_laws.specs.Meaning.{Meaning}
 use Rattle.poly_laws.specs.PolyAlgebra.{every_passes}
 use Rattle.poly_laws.specs.Lists.{is_trimmed}
 use Rattle.poly_laws.specs.Values.{level}
-use Rattle.polynomial_sums.specs.PolynomialSums.{Letter, letter_n, letter_k, letter_x, power_in, with_power, falling, monomials_of, times, IsFresh, AreDistinct, IsFree, IsPolynomial}
+use Rattle.polynomial_sums.specs.PolynomialSums.{Letter, letter_n, letter_k, letter_x, power_in, with_power, falling, monomials_of, times, AreDistinct, IsFree, IsPolynomial}
 use Rattle.polynomial_sums.proofs.Powers.{HavePower, HaveAtLeast, all_set}
 use Rattle.polynomial_sums.proofs.Letters.{falling_from, monomials_apart}
 use Rattle.polynomial_sums.proofs.Telling.{monomials_told, not_none}

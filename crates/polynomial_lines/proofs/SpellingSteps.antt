@@ -1,11 +1,11 @@
 -- The steps of writing and reading a polynomial by its monomials.
-use Rattle.std.specs.Prelude.{◌≡◌, ℕ, pos, length, List, [], ◌∷◌, ◌++◌, map}
+use Rattle.std.specs.Prelude.{◌≡◌, pos, length, List, [], ◌∷◌, ◌++◌, map}
 use Rattle.std.specs.List.{AllByRecursion}
 use Rattle.std.proofs.Common.{refl, ap, sym, ◌∙◌, subst}
 use Rattle.ring_laws.specs.Meaning.{Meaning}
 use Rattle.poly_laws.specs.Values.{level}
 use Rattle.exact_texts.specs.Sums.{IsMonomial}
-use Rattle.polynomial_sums.specs.PolynomialSums.{Letter, letter_n, letter_k, letter_x, monomials_of, times, IsFree, IsPolynomial}
+use Rattle.polynomial_sums.specs.PolynomialSums.{Letter, letter_n, letter_k, letter_x, monomials_of, times, IsFree}
 use Rattle.polynomial_sums.proofs.Bounds.{monomials_within}
 use Rattle.polynomial_sums.proofs.Placing.{all_times_none}
 use Rattle.spelled.specs.Monomials.{MonomialValue, monomial_of}

@@ -7,12 +7,14 @@
 //! levels), `wholes.rt` and `polys.rt` (its instances), then `polynomials.rt` (the spelling).
 #![tactic(auto)]
 
+mod laws;
 mod letters;
 mod polynomials;
 mod polys;
 mod rings;
 mod wholes;
 
+pub use laws::polynomials_have_their_texts_in_documents;
 pub use letters::{Letter, Letters};
 pub use polynomials::{POLYNOMIALS_IN_N, POLYNOMIALS_IN_N_AND_K, Polynomials};
 pub use rings::PolynomialRing;

@@ -1,5 +1,5 @@
 -- The rings of polynomials level by level: whole numbers, and the polynomials over a ring of polynomials, have letters.
-use Rattle.std.specs.Prelude.{◌≡◌, ℕ, zero, suc, ◌≤◌, ◌&&◌, not, IsTrue, List, [], ◌∷◌, length, get_or}
+use Rattle.std.specs.Prelude.{◌≡◌, ℕ, suc, ◌&&◌, not, IsTrue, List, [], ◌∷◌, get_or}
 use Rattle.std.proofs.Common.{refl, ap, sym, ◌∙◌, subst}
 use Rattle.ring_laws.specs.Meaning.{Meaning, number, several, parted, items}
 use Rattle.ring_laws.specs.Algebra.{Algebra}

@@ -1,6 +1,6 @@
 //! Polynomials as sums of monomials, in any of the letters n, k and x: the monomials tell the polynomial.
 //!
-//! There is no code here: `specs/PolynomialSums` has the definitions, and `proofs/` their laws: Powers, Letters, Telling, Bounds.
+//! There is no code here: `specs/PolynomialSums` has the definitions, and `proofs/` their laws: Powers, Letters, Telling, Bounds, Placing, Levels.
 //! A polynomial is a trimmed list of coefficients at each level; its text is the sum of its monomials, by falling powers.
 //! The function does nothing: its contract is the law that the text tells the polynomial.
 #![tactic(auto)]

@@ -1,5 +1,5 @@
-use Rattle.std.proofs.Common.{◌≡◌, arith, length, List, map, ap, sym, ◌∙◌}
-use Rattle.spelled.specs.Monomials.{MonomialValue, monomial_of}
+use Rattle.std.proofs.Common.{◌≡◌, arith, length, map, ap, sym, ◌∙◌}
+use Rattle.spelled.specs.Monomials.{monomial_of}
 use Rattle.polynomial_lines.specs.Letters.{letter_of}
 use Rattle.polynomial_lines.proofs.PowerCuts.{one_less, exactly, cut_here}
 use Rattle.polynomial_lines.proofs.polys.cut_at_power.Goals as goal

@@ -1,11 +1,10 @@
-use Rattle.std.proofs.Common.{rules, ◌≡◌, ◌++◌, ◌∷◌, [], map, length, arith, sym, subst, ap, ◌∙◌}
+use Rattle.std.proofs.Common.{rules, ◌≡◌, map, length, arith, subst, ◌∙◌}
 use Rattle.std.specs.Option.{MatchOption}
-use Rattle.std.proofs.lemmas.List.{length-map, map-append}
-use Rattle.ring_laws.specs.Meaning.{Meaning}
+use Rattle.std.proofs.lemmas.List.{length-map}
 use Rattle.polynomial_sums.specs.PolynomialSums.{with_power}
 use Rattle.spelled.specs.Monomials.{monomial_of}
 use Rattle.polynomial_lines.specs.Letters.{letter_of}
-use Rattle.polynomial_lines.proofs.ReadSteps.{AreAhead, read_all, read_next, none_there, some_there, one_read, one_longer}
+use Rattle.polynomial_lines.proofs.ReadSteps.{read_all, read_next, none_there, some_there, one_read, one_longer}
 use Rattle.polynomial_lines.proofs.polys.read_falling.Goals as goal
 
 -- each list of last monomials is that of a coefficient

@@ -2,7 +2,6 @@ use Rattle.std.proofs.Common.{◌≡◌, ◌++◌, map, subst}
 use Rattle.std.specs.Prelude.{string_bytes}
 use Rattle.std.specs.Result.{OnOk}
 use Rattle.exact_texts.specs.Sums.{sum_text}
-use Rattle.spelled.specs.Monomials.{monomial_of}
 use Rattle.polynomial_lines.specs.Letters.{letter_of, letters_of}
 use Rattle.polynomial_lines.proofs.SpellingSteps.{all_pushed, are_monomials}
 use Rattle.polynomial_lines.proofs.polynomials.PolynomialsSpelling.write.Goals as goal
