@@ -7,7 +7,8 @@ use Rattle.ring_laws.specs.Meaning.{Meaning}
 use Rattle.poly_laws.specs.PolyAlgebra.{every_passes}
 use Rattle.poly_laws.specs.Lists.{is_trimmed}
 use Rattle.poly_laws.specs.Values.{level}
-use Rattle.polynomial_sums.specs.PolynomialSums.{Letter, letter_n, letter_k, letter_x, power_in, with_power, falling, monomials_of, times, AreDistinct, IsFree, IsPolynomial}
+use Rattle.hypergeometric.specs.TermFacts.{IsPolynomial}
+use Rattle.polynomial_sums.specs.PolynomialSums.{Letter, letter_n, letter_k, letter_x, power_in, with_power, falling, monomials_of, times, AreDistinct, IsFree}
 use Rattle.polynomial_sums.proofs.Powers.{HavePower, HaveAtLeast, all_set}
 use Rattle.polynomial_sums.proofs.Letters.{falling_from, monomials_apart}
 use Rattle.polynomial_sums.proofs.Telling.{monomials_told, not_none}

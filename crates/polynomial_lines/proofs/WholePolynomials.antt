@@ -9,7 +9,8 @@ use Rattle.poly_laws.specs.Lists.{trimmed, is_trimmed}
 use Rattle.poly_laws.specs.PolyAlgebra.{every_passes}
 use Rattle.poly_laws.specs.Values.{level}
 use Rattle.poly_laws.proofs.Trimming.{trimmed_already}
-use Rattle.polynomial_sums.specs.PolynomialSums.{Letter, falling, monomials_of, times, IsFree, IsPolynomial, HasLetters}
+use Rattle.hypergeometric.specs.TermFacts.{IsPolynomial}
+use Rattle.polynomial_sums.specs.PolynomialSums.{Letter, falling, monomials_of, times, IsFree, HasLetters}
 use Rattle.polynomial_sums.proofs.Levels.{trimmed_alike}
 use Rattle.spelled.specs.Monomials.{MonomialValue}
 use Rattle.polynomial_lines.specs.Coefficients.{AreCoefficients}

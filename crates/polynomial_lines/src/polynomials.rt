@@ -16,7 +16,8 @@ use std::marker::PhantomData;
 /// Polynomials with at most 256 coefficients at each level and numbers below 2^127 in magnitude, as sums of their monomials.
 #[derive(Drop)]
 pub struct Polynomials<R: PolynomialRing> {
-    letters: Letters,
+    /// The letters, one for each level.
+    pub letters: Letters,
     ring: PhantomData<R>,
     ghost one_each: { length (letters_of letters) ≡ R.levels },
 }

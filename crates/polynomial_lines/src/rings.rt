@@ -2,7 +2,8 @@
 
 ghost use Rattle.std.specs.Prelude.{◌≡◌, ◌++◌, ℕ, map, length, OnOk, IfOk, MatchOption};
 ghost use Rattle.ring_laws.specs.Meaning.{Meaning};
-ghost use Rattle.polynomial_sums.specs.PolynomialSums.{monomials_of, times, AreDistinct, IsFree, IsPolynomial, HasLetters};
+ghost use Rattle.hypergeometric.specs.TermFacts.{IsPolynomial};
+ghost use Rattle.polynomial_sums.specs.PolynomialSums.{monomials_of, times, AreDistinct, IsFree, HasLetters};
 ghost use Rattle.spelled.specs.Monomials.{MonomialValue, monomial_of};
 ghost use Rattle.polynomial_lines.specs.Letters.{letter_of};
 

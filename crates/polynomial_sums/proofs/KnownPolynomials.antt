@@ -4,7 +4,8 @@ use Rattle.std.specs.Fmt.{digits}
 use Rattle.std.proofs.Common.{refl, arith, lit<, lit≤}
 use Rattle.ring_laws.specs.Meaning.{Meaning, number, listed}
 use Rattle.poly_laws.specs.Values.{level}
-use Rattle.polynomial_sums.specs.PolynomialSums.{letter_n, letter_k, letter_x, in_n, in_n_k, in_n_k_x, polynomials, times, IsFree, AreDistinct, IsPolynomial, HasLetters}
+use Rattle.hypergeometric.specs.TermFacts.{IsPolynomial}
+use Rattle.polynomial_sums.specs.PolynomialSums.{letter_n, letter_k, letter_x, in_n, in_n_k, in_n_k_x, polynomials, times, IsFree, AreDistinct, HasLetters}
 use Rattle.polynomial_sums.proofs.Levels.{whole_has_letters, poly_has_letters, is_polynomial}
 
 -- a number as a coefficient in n

@@ -7,7 +7,8 @@ use Rattle.ring_laws.specs.Wholes.{whole_algebra}
 use Rattle.poly_laws.specs.Lists.{is_trimmed}
 use Rattle.poly_laws.specs.PolyAlgebra.{every_passes, poly_passes, poly_algebra}
 use Rattle.poly_laws.specs.Values.{level}
-use Rattle.polynomial_sums.specs.PolynomialSums.{IsPolynomial, HasLetters}
+use Rattle.hypergeometric.specs.TermFacts.{IsPolynomial}
+use Rattle.polynomial_sums.specs.PolynomialSums.{HasLetters}
 
 pub whole_has_letters : HasLetters 0 whole_algebra
 whole_has_letters = record { nought = refl; is_nought = λ m. refl; passes = λ m. refl; fits = λ m h. h }

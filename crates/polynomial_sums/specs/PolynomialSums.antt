@@ -4,6 +4,7 @@ use Rattle.ring_laws.specs.Meaning.{Meaning, items}
 use Rattle.ring_laws.specs.Algebra.{Algebra}
 use Rattle.ring_laws.specs.Wholes.{number_of}
 use Rattle.poly_laws.specs.Values.{level}
+use Rattle.hypergeometric.specs.TermFacts.{IsPolynomial}
 use Rattle.exact_texts.specs.Formats.{Format}
 use Rattle.exact_texts.specs.Sums.{Monomial, sum_text}
 
@@ -41,12 +42,8 @@ abbrev pub monomials_of : List Letter → Meaning → List Monomial
 monomials_of [] m = constant (number_of m)
 monomials_of (l ∷ ls) m = falling l (monomials_of ls) (items m) 0
 
--- a polynomial in so many letters: trimmed lists of at most 256 coefficients, numbers below 2^127 in magnitude
-pub record IsPolynomial (letters : ℕ) (p : Meaning) : Type 0 where
-  pub passes : IsTrue ((level letters).passes p)
-  pub fits : (level letters).ops.Fits p
-
--- polynomials in these letters, spelled as the sums of their monomials
+-- polynomials in these letters, with at most 256 coefficients at each level and numbers below 2^127 in magnitude, spelled as the sums of
+-- their monomials
 abbrev pub polynomials : List Letter → Format Meaning
 polynomials ls = record { Has = IsPolynomial (length ls); text = λ p. sum_text (monomials_of ls p) }
 

@@ -1,6 +1,7 @@
 use Rattle.std.proofs.Common.{◌≡◌, map, ap, subst, ◌∙◌}
 use Rattle.std.specs.Option.{MatchOption}
-use Rattle.polynomial_sums.specs.PolynomialSums.{IsPolynomial, monomials_of}
+use Rattle.hypergeometric.specs.TermFacts.{IsPolynomial}
+use Rattle.polynomial_sums.specs.PolynomialSums.{monomials_of}
 use Rattle.polynomial_sums.proofs.Bounds.{monomials_within}
 use Rattle.spelled.specs.Monomials.{monomial_of}
 use Rattle.polynomial_lines.specs.Letters.{letter_of, letters_of}
