@@ -1,5 +1,5 @@
 -- The monomials of a polynomial, by falling powers of its letters, and its text.
-use Rattle.std.specs.Prelude.{◌≡◌, ◌≢◌, ℕ, zero, suc, ◌+◌, IsTrue, ℤ, pos, negsuc, List, [], ◌∷◌, ◌++◌, map, length}
+use Rattle.std.specs.Prelude.{◌≡◌, ◌≢◌, ℕ, zero, suc, ◌+◌, ℤ, pos, negsuc, List, [], ◌∷◌, ◌++◌, map, length}
 use Rattle.ring_laws.specs.Meaning.{Meaning, items}
 use Rattle.ring_laws.specs.Algebra.{Algebra}
 use Rattle.ring_laws.specs.Wholes.{number_of}
