@@ -1,23 +1,23 @@
 -- The steps of reading the coefficients of a polynomial from its monomials.
-use Rattle.std.specs.Prelude.{◌≡◌, ◌≢◌, ℕ, suc, ◌+◌, ◌≤◌, IsTrue, List, [], ◌∷◌, ◌++◌, map, length}
+use Rattle.std.specs.Prelude.{◌≡◌, ◌≢◌, ℕ, suc, ◌+◌, ◌≤◌, List, [], ◌∷◌, ◌++◌, map, length}
 use Rattle.std.proofs.Common.{refl, ap, sym, ◌∙◌, subst, arith, append_assoc, append-nil}
 use Rattle.std.proofs.lemmas.List.{map-append, length-append}
 use Rattle.std.proofs.lemmas.Bool.{and_parts}
 use Rattle.ring_laws.specs.Meaning.{Meaning}
 use Rattle.poly_laws.specs.PolyAlgebra.{every_passes}
-use Rattle.poly_laws.specs.Lists.{is_trimmed}
 use Rattle.poly_laws.specs.Values.{level}
 use Rattle.hypergeometric.specs.TermFacts.{IsPolynomial}
 use Rattle.polynomial_sums.specs.PolynomialSums.{Letter, letter_n, letter_k, letter_x, power_in, with_power, falling, monomials_of, times, AreDistinct, IsFree}
 use Rattle.polynomial_sums.proofs.Powers.{HavePower, HaveAtLeast, all_set}
 use Rattle.polynomial_sums.proofs.Letters.{falling_from, monomials_apart}
-use Rattle.polynomial_sums.proofs.Telling.{monomials_told, not_none}
+use Rattle.polynomial_sums.proofs.Telling.{AreTold, monomials_told, not_none, map_empty, rest_trimmed}
 use Rattle.polynomial_sums.proofs.Placing.{falling_times, all_times_set, free_set}
 use Rattle.spelled.specs.Monomials.{MonomialValue}
 use Rattle.polynomial_lines.specs.Coefficients.{AreCoefficients}
 
 -- the coefficients so far and those ahead are all, and the rest has the monomials of those ahead
-pub record AreAhead (l : Letter) (ls : List Letter) (levels : ℕ) (powers : MonomialValue) (all done : List Meaning) (rest : List MonomialValue) : Type 0 where
+pub record AreAhead (l : Letter) (ls : List Letter) (levels : ℕ) (powers : MonomialValue) (all done : List Meaning) (rest : List MonomialValue)
+    : Type 0 where
   pub ahead : List Meaning
   pub are : AreCoefficients levels ahead
   pub whole : all ≡ done ++ ahead
@@ -56,9 +56,8 @@ pub record IsNext (l : Letter) (ls : List Letter) (levels count : ℕ) (powers :
 
 module _ (l : Letter) (ls : List Letter) (distinct : AreDistinct (l ∷ ls)) (powers : MonomialValue) (free : IsFree (l ∷ ls) powers)
     (all done : List Meaning) (rest : List MonomialValue) where
-  map_none : (f : MonomialValue → MonomialValue) (ms : List MonomialValue) → map f ms ≡ [] → ms ≡ []
-  map_none f [] e = refl
-  map_none f (m ∷ ms) e = absurd cc
+  told : AreTold ls
+  told = monomials_told ls distinct.1
 
   -- where no monomials are left, no coefficients are
   ended : AreAhead l ls (length ls) powers all done rest → rest ≡ [] → done ≡ all
@@ -68,19 +67,16 @@ module _ (l : Letter) (ls : List Letter) (distinct : AreDistinct (l ∷ ls)) (po
           → map (times powers) (falling l (monomials_of ls) ahead (length done)) ≡ [] → done ≡ all
       go [] are whole none = sym (whole ∙ append-nil done)
       go (c ∷ cs) are whole none =
-          absurd (not_none l ls distinct.0 (monomials_told ls distinct.1) c cs (length done) are.passes are.trimmed
-          (map_none (times powers) (falling l (monomials_of ls) (c ∷ cs) (length done)) none))
-
-  rest_trimmed : (c : Meaning) (cs : List Meaning) → IsTrue (is_trimmed (level (length ls)).ops (c ∷ cs)) → IsTrue (is_trimmed (level (length ls)).ops cs)
-  rest_trimmed c [] t = refl
-  rest_trimmed c (d ∷ cs) t = t
+          absurd (not_none l ls distinct.0 told c cs (length done) are.passes are.trimmed
+          (map_empty l ls distinct.0 told (times powers) (falling l (monomials_of ls) (c ∷ cs) (length done)) none))
 
   -- where some are left, a coefficient is next
   goes_on : AreAhead l ls (length ls) powers all done rest → rest ≢ [] → IsNext l ls (length ls) (length done) powers all done rest
   goes_on a some = go a.ahead a.are a.whole a.short a.spelled
     where
       go : (ahead : List Meaning) → AreCoefficients (length ls) ahead → all ≡ done ++ ahead → length done + length ahead ≤ 256
-          → rest ≡ map (times powers) (falling l (monomials_of ls) ahead (length done)) → IsNext l ls (length ls) (length done) powers all done rest
+          → rest ≡ map (times powers) (falling l (monomials_of ls) ahead (length done))
+          → IsNext l ls (length ls) (length done) powers all done rest
       go [] are whole short spelled = absurd (some spelled)
       go (c ∷ cs) are whole short spelled =
           let i = length done in
@@ -100,7 +96,7 @@ module _ (l : Letter) (ls : List Letter) (distinct : AreDistinct (l ∷ ls)) (po
             free = free_set l i ls powers distinct.0 free.1;
             after = record {
               ahead = cs;
-              are = record { passes = passes.1; trimmed = rest_trimmed c cs are.trimmed; fits = are.fits.1 };
+              are = record { passes = passes.1; trimmed = rest_trimmed l ls distinct.0 told c cs are.trimmed; fits = are.fits.1 };
               whole = whole ∙ sym (append_assoc done (c ∷ []) cs);
               short = omega (arith, more, short);
               spelled = ap (λ j. map (times powers) (falling l (monomials_of ls) cs j)) (sym more);
@@ -125,12 +121,6 @@ none_there f (x ∷ xs) e = absurd (omega (arith, e))
 pub some_there : {X Y : Type 0} (f : X → Y) (xs : List X) → ¬ (length xs ≡ 0) → map f xs ≢ []
 some_there f [] n e = n refl
 some_there f (x ∷ xs) n e = absurd cc
-
--- before the first coefficient all are ahead
-pub all_ahead : (l : Letter) (ls : List Letter) (levels : ℕ) (powers : MonomialValue) (cs : List Meaning) (monomials : List MonomialValue)
-    → AreCoefficients levels cs → length cs ≤ 256 → monomials ≡ map (times powers) (falling l (monomials_of ls) cs 0)
-    → AreAhead l ls levels powers cs [] monomials
-all_ahead l ls levels powers cs monomials are short e = record { ahead = cs; are = are; whole = refl; short = omega (arith, short); spelled = e }
 
 -- one coefficient more is read
 pub one_read : {T : Type 0} (meaning : T → Meaning) (l : Letter) (ls : List Letter) (levels count : ℕ) (powers : MonomialValue) (all : List Meaning)

@@ -29,7 +29,8 @@ fn push_falling<R: PolynomialRing>(
     requires distinct { AreDistinct (letter_of letter ∷ map letter_of inner.now) }
     requires others { IsFree (letter_of letter ∷ map letter_of inner.now) (monomial_of powers.now) }
     ensures pushed { OnOk result (map monomial_of monomials.new.items ≡ map monomial_of monomials.old.items
-        ++ map (times (monomial_of powers.now)) (falling (letter_of letter) (monomials_of (map letter_of inner.now)) (map R.meaning coefficients.now) 0)) }
+        ++ map (times (monomial_of powers.now))
+        (falling (letter_of letter) (monomials_of (map letter_of inner.now)) (map R.meaning coefficients.now) 0)) }
 {
     let mut power = coefficients.len();
     while power > 0 {

@@ -58,11 +58,11 @@ module _ (l : Letter) (ls : List Letter) (fresh : IsFresh l ls) (inner : AreTold
   first_passes : (c : Meaning) (cs : List Meaning) → Passes (c ∷ cs) → IsTrue ((level (length ls)).passes c) × Passes cs
   first_passes c cs p = and_parts ((level (length ls)).passes c) (every_passes (level (length ls)).passes cs) p
 
-  rest_trimmed : (c : Meaning) (cs : List Meaning) → Trimmed (c ∷ cs) → Trimmed cs
+  pub rest_trimmed : (c : Meaning) (cs : List Meaning) → Trimmed (c ∷ cs) → Trimmed cs
   rest_trimmed c [] t = refl
   rest_trimmed c (d ∷ cs) t = t
 
-  map_empty : (f : Monomial → Monomial) (ms : List Monomial) → map f ms ≡ [] → ms ≡ []
+  pub map_empty : (f : Monomial → Monomial) (ms : List Monomial) → map f ms ≡ [] → ms ≡ []
   map_empty f [] e = refl
   map_empty f (m ∷ ms) e = absurd cc
 

@@ -18,6 +18,7 @@ loop-power-preserved g c = record {
   within = omega (arith, c.loop-power.invariant.within);
   pushed = one_pushed g.R.Ring.meaning (letter_of c.args.letter) (map letter_of c.args.inner.now) c.requires.distinct.0
       (monomial_of c.args.powers.now) c.requires.others.0 c.args.coefficients.now c.loop-power.power c.index-coefficients-power.result _ _ _
-      (monomial_of c.with_power-placed.result) (omega (arith, c.loop-power-test.true)) (omega (arith, c.loop-power.invariant.within, c.loop-power-test.true))
+      (monomial_of c.with_power-placed.result) (omega (arith, c.loop-power-test.true))
+      (omega (arith, c.loop-power.invariant.within, c.loop-power-test.true))
       c.index-coefficients-power.is c.with_power-placed.ensures.monomial c.loop-power.invariant.pushed c.in_ok-push_monomials.ensures.pushed;
 }
