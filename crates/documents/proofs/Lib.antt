@@ -1,0 +1,3 @@
+mod OrderLists
+mod AnswerSteps
+mod KnownDocuments

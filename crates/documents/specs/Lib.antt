@@ -1,0 +1,4 @@
+pub mod Documents
+pub mod WellFormed
+pub mod Answers
+pub mod Views
