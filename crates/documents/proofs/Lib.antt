@@ -1,3 +1,4 @@
 mod OrderLists
 mod AnswerSteps
+pub mod OneTerm
 mod KnownDocuments

@@ -6,7 +6,7 @@
 //! is passed in `specs/NormalShifts.antt`.
 //! Read `raised_forms.rt` and `runs.rt` (forms with powers, and runs of them), `shares.rt` (what one item of a term gives to a piece),
 //! `piece_forms.rt` (the forms of a piece), `degrees.rt` (the tests), `numbers.rt` and `form_products.rt` (lists of primitive forms),
-//! `tops.rt`, `carriers.rt`, then `pieces.rt` and `made_pieces.rt`; `plain.rt` tests whether a term is plain. Of normal forms read
+//! `tops.rt`, `carriers.rt`, then `pieces.rt` and `made_pieces.rt`; `plain.rt` tests whether a term is plain, and adds up powers. Of normal forms read
 //! `normal_candidates.rt` (which forms match, at which shifts), `normal_matches.rt` (what is taken), `normal_lists.rt` (the lists that are
 //! left and made), then `normal.rt`.
 #![tactic(auto)]
@@ -33,5 +33,5 @@ mod tops;
 pub use made_pieces::pieces_of;
 pub use normal::{Match, Normal, normal_form, normal_form_of};
 pub use pieces::Pieces;
-pub use plain::is_plain;
+pub use plain::{is_plain, total_power};
 pub use tops::Top;

@@ -44,8 +44,8 @@ fn have_no_form_in_common(list: &FactorList, other: &FactorList) -> bool
     true
 }
 
-// The sum of the powers. A list is too short for it to reach 2^128.
-fn powers(list: &FactorList) -> u128
+/// The sum of the powers of a list. A list is too short for it to pass 2^100.
+pub fn total_power(list: &FactorList) -> u128
     ensures total { result ≡ total_power (list_of list.now).factors }
     ensures small { result ≤ 2 ^ 100 }
 {
@@ -77,7 +77,7 @@ fn are_few(up: &FactorList, down: &FactorList, over: &FactorList, guard: &Factor
     ensures test { IsTrue result ↔ (total_power (list_of up.now).factors + total_power (list_of down.now).factors + total_power (list_of over.now).factors
         + 2 * total_power (list_of guard.now).factors ≤ 24) }
 {
-    powers(up) + powers(down) + powers(over) + 2 * powers(guard) <= 24
+    total_power(up) + total_power(down) + total_power(over) + 2 * total_power(guard) <= 24
 }
 
 // Whether the lists are those of a plain term.

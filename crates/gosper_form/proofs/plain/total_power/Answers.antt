@@ -2,7 +2,7 @@ use Rattle.std.proofs.Common.{ap, arith}
 use Rattle.hypergeometric.specs.TermFacts.{total_power}
 use Rattle.lin_form.specs.ListOf.{list_of}
 use Rattle.gosper_form.proofs.ShareTotals.{total_within}
-use Rattle.gosper_form.proofs.plain.powers.Goals as goal
+use Rattle.gosper_form.proofs.plain.total_power.Goals as goal
 
 -- no sum passes that of all powers
 pub overflow_add-total : goal.overflow_add-total

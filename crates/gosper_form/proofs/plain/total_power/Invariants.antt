@@ -1,7 +1,7 @@
 use Rattle.std.proofs.Common.{◌≡◌, ◌+◌}
 use Rattle.hypergeometric.specs.TermFacts.{total_power}
 use Rattle.lin_form.specs.ListOf.{list_of}
-use Rattle.gosper_form.proofs.plain.powers.Given as goal
+use Rattle.gosper_form.proofs.plain.total_power.Given as goal
 
 -- the powers so far, and those that are left
 abbrev pub invariant-loop-power : goal.invariant-loop-power
