@@ -1,0 +1,2 @@
+mod TermWrites
+mod KnownTerms
