@@ -30,7 +30,8 @@ module _ (f : LinearForm) where
   first_once : IsProp (IsPositiveFirst f)
   first_once = either_once by_k (either_once by_n by_offset (λ a b. omega (arith, ints, a.1, b.1))) apart
     where
-      apart : pos 0 <ℤ f.k_slope → ((f.k_slope ≡ pos 0) × (pos 0 <ℤ f.n_slope)) ⊎ ((f.k_slope ≡ pos 0) × (f.n_slope ≡ pos 0) × (pos 0 <ℤ f.offset)) → ⊥
+      apart : pos 0 <ℤ f.k_slope
+          → ((f.k_slope ≡ pos 0) × (pos 0 <ℤ f.n_slope)) ⊎ ((f.k_slope ≡ pos 0) × (f.n_slope ≡ pos 0) × (pos 0 <ℤ f.offset)) → ⊥
       apart a (inl b) = omega (arith, ints, a, b.0)
       apart a (inr b) = omega (arith, ints, a, b.0)
 
@@ -40,6 +41,7 @@ primitive_once f = Prim.hlevel (props, first_once)
 form_once : (f : LinearForm) → IsProp (IsForm f)
 form_once f = Prim.hlevel props
 
+-- two proofs that two lists are a form quotient are the same
 pub form_quotient_once : (q0 r0 : FactorList) → IsProp (IsFormQuotient q0 r0)
 form_quotient_once q0 r0 = λ u v i. record {
   primitive = AllByRecursion-prop (λ x. IsPrimitive x.form) (λ x. primitive_once x.form) q0.factors u.primitive v.primitive i;
