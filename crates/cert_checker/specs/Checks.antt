@@ -10,9 +10,9 @@ use Rattle.poly_laws.specs.Values.{value_at, level}
 use Rattle.hypergeometric.specs.ProperTerm.{proper_value}
 use Rattle.hypergeometric.specs.Telescopes.{Telescopes}
 use Rattle.cert_text.specs.Readable.{Contents, document_of}
-use Rattle.cert_text.specs.declared.faults.EngineFault.{EngineFault}
-use Rattle.cert_text.specs.declared.faults.EngineFault.TheVariants as engine
-use Rattle.cert_text.specs.declared.faults.Place.TheVariants.{Claim}
+use Rattle.documents.specs.declared.faults.EngineFault.{EngineFault}
+use Rattle.documents.specs.declared.faults.EngineFault.TheVariants as engine
+use Rattle.documents.specs.declared.faults.Place.TheVariants.{Claim}
 use Rattle.cert_checker.specs.declared.verdicts.Verdict.{Verdict}
 use Rattle.cert_checker.specs.declared.verdicts.Verdict.TheVariants.{Accepted, Rejected}
 use Rattle.cert_checker.specs.declared.verdicts.Reason.{Reason}

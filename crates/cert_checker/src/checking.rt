@@ -7,7 +7,8 @@ ghost use Rattle.cert_checker.specs.Checks.{difference, multiple, HasCarrier, Ha
 ghost use Rattle.cert_checker.specs.Checks.{IsVerdictOf, IsAccepted, HasIdentity, ClaimTelescopes, claim_fault, GivesSides, TestsEquation};
 
 use crate::verdicts::{Reason, Verdict};
-use cert_text::{EngineFault, Place, PolyDoc};
+use cert_text::PolyDoc;
+use documents::{EngineFault, Place};
 use poly_generic::Zn;
 use ring_laws::{Ring, RingFault};
 use std::alloc::Global;

@@ -1,5 +1,6 @@
 use crate::{Reason, Verdict, check_poly};
-use cert_text::{DocFault, EngineFault, Place, PolyDoc, read_poly_doc};
+use cert_text::{DocFault, PolyDoc, read_poly_doc};
+use documents::{EngineFault, Place};
 use std::alloc::Global;
 
 // The document with these lines for the multiplier, the scale of the carrier and Y, of the sum of k^2.

@@ -18,7 +18,7 @@ mod printing;
 mod reading;
 
 pub use documents::PolyDoc;
-pub use faults::{DocFault, EngineFault, Place};
+pub use faults::DocFault;
 pub use laws::{one_outcome, text_determines_contents};
 pub use printing::print_poly_doc;
 pub use reading::read_poly_doc;

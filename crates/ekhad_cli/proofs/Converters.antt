@@ -3,10 +3,10 @@ use Rattle.std.proofs.Common.{◌≡◌, ◌≢◌, ◌≤◌, ℕ, List, length
 use Rattle.steps.specs.declared.limits.LimitName.{LimitName}
 use Rattle.cert_text.specs.declared.faults.DocFault.{DocFault}
 use Rattle.cert_text.specs.declared.faults.DocFault.TheVariants as document
-use Rattle.cert_text.specs.declared.faults.Place.{Place}
-use Rattle.cert_text.specs.declared.faults.Place.TheVariants.{Order, Case, BoxSums, Claim}
-use Rattle.cert_text.specs.declared.faults.EngineFault.{EngineFault}
-use Rattle.cert_text.specs.declared.faults.EngineFault.TheVariants as engine
+use Rattle.documents.specs.declared.faults.Place.{Place}
+use Rattle.documents.specs.declared.faults.Place.TheVariants.{Order, Case, BoxSums, Claim}
+use Rattle.documents.specs.declared.faults.EngineFault.{EngineFault}
+use Rattle.documents.specs.declared.faults.EngineFault.TheVariants as engine
 use Rattle.cert_text.specs.Readable.{Contents, IsTextOf, IsFirstBadLine, carried}
 use Rattle.cert_checker.specs.Checks.{HasCarrier, HasMultiplier, AreInBounds}
 use Rattle.ekhad_cli.specs.declared.words.Command.TheVariants.{Check}

@@ -10,9 +10,9 @@ use Rattle.steps.specs.declared.faults.StepFault.{StepFault}
 use Rattle.steps.specs.declared.faults.StepFault.TheVariants as step
 use Rattle.cert_text.specs.declared.faults.DocFault.{DocFault}
 use Rattle.cert_text.specs.declared.faults.DocFault.TheVariants as document
-use Rattle.cert_text.specs.declared.faults.EngineFault.{EngineFault}
-use Rattle.cert_text.specs.declared.faults.EngineFault.TheVariants as engine
-use Rattle.cert_text.specs.declared.faults.Place.TheVariants.{Claim}
+use Rattle.documents.specs.declared.faults.EngineFault.{EngineFault}
+use Rattle.documents.specs.declared.faults.EngineFault.TheVariants as engine
+use Rattle.documents.specs.declared.faults.Place.TheVariants.{Claim}
 use Rattle.ekhad_cli.specs.declared.words.Command.{Command}
 use Rattle.ekhad_cli.specs.declared.refusal.SyntaxKind.TheVariants as kind
 use Rattle.ekhad_cli.specs.declared.refusal.Refusal.{Refusal}

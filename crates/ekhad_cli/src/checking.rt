@@ -11,7 +11,8 @@ use crate::refusal::Refusal;
 use crate::status::Status;
 use crate::words::Command;
 use cert_checker::{Reason, Verdict, check_poly};
-use cert_text::{DocFault, EngineFault, Place, read_poly_doc};
+use cert_text::{DocFault, read_poly_doc};
+use documents::{EngineFault, Place};
 use std::alloc::{AllocError, Global};
 
 // The word of a test.
