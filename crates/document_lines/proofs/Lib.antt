@@ -1,0 +1,5 @@
+mod ClaimSteps
+mod ClaimListSteps
+mod ClaimWrites
+mod DocumentSteps
+mod KnownTexts

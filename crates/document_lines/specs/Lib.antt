@@ -1,0 +1,13 @@
+pub mod ClaimTexts
+pub mod DocumentTexts
+pub mod Words
+pub mod Headings
+pub mod Sequences
+pub mod RangeLaws
+pub mod WitnessLaws
+pub mod HeadingLaws
+pub mod CommandLaws
+pub mod FormLaws
+pub mod ClaimLaws
+pub mod ClaimListLaws
+pub mod DocumentLaws
