@@ -1,4 +1,4 @@
-# What rings.sh, roots.sh and elimination.sh share: a program is built in a folder of its own, over a copy of the crates below it, which are proved first.
+# What the scripts that build a program share: it is built in a folder of its own, over a copy of the crates below it, which are proved first.
 here=$(cd "$(dirname "$0")/.." && pwd) || exit 1
 work=$(mktemp -d) || exit 1
 trap 'rm -rf "$work"' EXIT
